@@ -1,0 +1,130 @@
+-- The longest file: no reading's text is longer than 27,294 bytes.
+use Prim.Native.Nat.{ℕ, suc, _+_, _*_, _-_, _^_, _≤_, _<_}
+use native.Mathlib.Omega.{arith}
+use mathlib.Core.Path.{_≡_, refl}
+use mathlib.Core.List.{List, [], _∷_}
+use lib.ListN.{length, length-append}
+use lib.Pow.{pow-mono}
+use Rattle.policy.specs.declared.Rule.{Rule}
+use Rattle.policy.specs.declared.Query.{Query}
+use Rattle.policy.specs.declared.Action.{Action}
+use Rattle.policy.specs.declared.Kind.{Kind}
+use Rattle.policy.specs.declared.Kind.the-variants.{Provision, Obligation}
+use Rattle.policy.specs.Record.{listed, levelsOf, actionsOf, rulesOf}
+use Rattle.reader.specs.declared.Reading.{Reading}
+use Rattle.reader.specs.Text.{decimal}
+use Rattle.reader.specs.Format.{fits}
+use Rattle.reader.specs.Written.{lineOf, letterOf, joined, commas, each, levelText, actionText, ruleText, queryText}
+use Rattle.reader.specs.Written.{entriesText, fileOf}
+use Rattle.reader.specs.Laws.All.{All, all-map}
+use Rattle.reader.specs.Laws.Tests.{list-parts}
+use Rattle.reader.specs.Laws.Numbers.{decimalBy-length}
+use Rattle.reader.specs.Laws.Lists.{ListFits}
+use Rattle.reader.specs.Laws.Records.{ActionFits, RuleFits, QueryFits}
+use Rattle.reader.specs.Laws.Readings.{queriesOf, ReadingFits}
+use Rattle.reader.specs.Laws.Files.{textOf}
+
+-- a number below 10 ^ k has at most k digits
+decimal-length : (k n : ℕ) → n < 10 ^ suc k → length (decimal n) ≤ suc k
+unfolding decimal
+decimal-length k n h = decimalBy-length 9 k n h
+
+-- a line is its contents and its key, the = sign and the LF
+line-length : (key : List ℕ) (c : List ℕ) → length (lineOf key c) ≡ length key + (length c + 2)
+unfolding lineOf
+line-length key c = simp length-append (omega arith)
+
+-- texts of at most b bytes each
+each-length : {A : Type 0} (f : A → List ℕ) (b : ℕ) (l : List A) → All (λ x. length (f x) ≤ b) l → length (each f l) ≤ b * length l
+unfolding each
+each-length f b [] h = omega arith
+each-length f b (x ∷ l) h = simp length-append (omega (arith, each-length f b l (h .1)))
+
+-- a list of numbers of at most three digits
+commas-length : (ds : List ℕ) → All (λ d. d < 1000) ds → length (commas ds) ≤ 4 * length ds - 1
+unfolding commas joined
+commas-length [] h = omega arith
+commas-length (d ∷ []) h = omega (arith, decimal-length 2 d (h .0))
+commas-length (d ∷ (e ∷ ds)) h =
+    simp length-append (omega (arith, decimal-length 2 d (h .0), commas-length (e ∷ ds) (h .1)))
+
+-- a list of at most 8 of them
+list-length : (n : ℕ) (ds : List ℕ) → n ≤ 128 → ListFits n ds → length (commas ds) ≤ 31
+unfolding ListFits fits
+list-length n ds h f =
+    let parts = list-parts (length ds) n ds (f .0) in
+    omega (arith, parts .0, commas-length ds (all-map (λ d below. omega arith) ds (parts .1)))
+
+-- the texts of a kind, a level, an action, a rule and a query
+letter-length : (k : Kind) → length (letterOf k) ≡ 1
+unfolding letterOf
+letter-length Provision = refl
+letter-length Obligation = refl
+
+level-length : (l : ℕ) → l ≤ 15 → length (levelText l) ≤ 9
+unfolding levelText
+level-length l h = rw line-length (omega (arith, decimal-length 1 l (omega arith)))
+
+module _ (n m : ℕ) (few : n ≤ 128) (h : m ≤ 16) where
+  -- a mask has at most five digits
+  mask-length : (x : ℕ) → x < 2 ^ m → length (decimal x) ≤ 5
+  mask-length x less = decimal-length 4 x (omega (arith, pow-mono h))
+
+  action-length : (a : Action) → ActionFits m a → length (actionText a) ≤ 31
+  unfolding actionText
+  action-length a f =
+      simp (length-append, line-length) (omega (
+        arith,
+        letter-length (a .kind),
+        decimal-length 4 (a .weight) (omega (arith, f .heavy)),
+        mask-length (a .also) (f .mask),
+      ))
+
+  rule-length : (r : Rule) → RuleFits n m r → length (ruleText r) ≤ 95
+  unfolding ruleText
+  rule-length r f =
+      simp (length-append, line-length) (omega (
+        arith,
+        decimal-length 2 (r .head) (omega (arith, f .headed)),
+        mask-length (r .needs) (f .mask),
+        list-length n (listed (r .ifs)) few (f .ifs-fit),
+        list-length n (listed (r .unless)) few (f .unless-fit),
+      ))
+
+  query-length : (q : Query) → QueryFits n m q → length (queryText q) ≤ 20
+  unfolding queryText
+  query-length q f =
+      simp (length-append, line-length) (omega (
+        arith,
+        decimal-length 2 (q .want) (omega (arith, f .wanted)),
+        mask-length (q .done) (f .mask),
+      ))
+
+-- the longest file
+pub file-length : (r : Reading) → ReadingFits r → length (textOf r) ≤ 27294
+unfolding fileOf entriesText
+file-length r f =
+    let p = r .policy in
+    let e = f .policy .entries in
+    let n = p .decisions in
+    let m = p .actions in
+    let few = f .policy .few-decisions in
+    let masks = f .policy .few-actions in
+    simp (length-append, line-length) (omega (
+      arith,
+      few,
+      masks,
+      e .few-rules,
+      e .level-count,
+      e .action-count,
+      e .rule-count,
+      f .places,
+      decimal-length 2 n (omega arith),
+      decimal-length 1 m (omega arith),
+      each-length levelText 9 (levelsOf p) (all-map level-length (levelsOf p) (e .levels)),
+      each-length actionText 31 (actionsOf p) (all-map (action-length n m few masks) (actionsOf p) (e .action)),
+      decimal-length 2 (p .rules) (omega (arith, e .few-rules)),
+      each-length ruleText 95 (rulesOf p) (all-map (rule-length n m few masks) (rulesOf p) (e .rule)),
+      decimal-length 1 (r .queries .count) (omega (arith, f .few)),
+      each-length queryText 20 (queriesOf r) (all-map (query-length n m few masks) (queriesOf r) (f .queries)),
+    ))
