@@ -1,0 +1,117 @@
+// The rules that fire in a world, until the wanted decision is held.
+ghost use mathlib.Core.Path.{_≡_};
+ghost use mathlib.Core.List.{_++_};
+ghost use Prim.Native.Nat.{_-_, _<_};
+ghost use lib.ListN.{length, replicate};
+ghost use Rattle.policy.specs.Record.{listed};
+ghost use Rattle.policy.specs.Laws.{ListFits, RuleFits, InRange};
+ghost use Rattle.model.specs.Fire.{allHeld, noneHeld, fits, firedOf};
+use policy::Decisions;
+use policy::Policy;
+use policy::Rule;
+
+// The rules that fired, in order: `count` of them, and zeros behind them.
+pub struct Fired {
+    pub count: u8,
+    pub rules: [u8; 128],
+}
+
+// Every decision of the list is held.
+fn all_held(held: &[bool; 128], list: Decisions) -> bool
+    requires { ⌜ ListFits 128 list ⌝ }
+    ensures { λ r. ⌜ r ≡ allHeld (now (held .entry)) (listed list) ⌝ }
+{
+    let n = list.count as usize;
+    let at = list.at;
+    for i in 0..n {
+        let d = at[i] as usize;
+        if !held[d] {
+            return false;
+        }
+    }
+    true
+}
+
+// No decision of the list is held.
+fn none_held(held: &[bool; 128], list: Decisions) -> bool
+    requires { ⌜ ListFits 128 list ⌝ }
+    ensures { λ r. ⌜ r ≡ noneHeld (now (held .entry)) (listed list) ⌝ }
+{
+    let n = list.count as usize;
+    let at = list.at;
+    for i in 0..n {
+        let d = at[i] as usize;
+        if held[d] {
+            return false;
+        }
+    }
+    true
+}
+
+// The rule can fire: its head is not held yet, and the world and the marks are as it asks.
+fn fires(rule: Rule, held: &[bool; 128], world: u16) -> bool
+    requires { ⌜ RuleFits 128 16 rule ⌝ }
+    ensures { λ r. ⌜ r ≡ fits (now (held .entry)) world rule ⌝ }
+{
+    let head = rule.head as usize;
+    let ifs = rule.ifs;
+    let unless = rule.unless;
+    if held[head] {
+        return false;
+    }
+    if !mask::contains(world, rule.needs) {
+        return false;
+    }
+    if !all_held(held, ifs) {
+        return false;
+    }
+    none_held(held, unless)
+}
+
+// The rules that fire until `want` is held, level by level, in passes over the rules; none where it is never held.
+// No rule of a higher level than want's has the head `want`, so those levels are left out.
+pub(crate) fn scan(policy: Policy, want: u8, world: u16) -> Fired
+    requires { ⌜ InRange policy ⌝ }
+    requires { ⌜ want < policy .decisions ⌝ }
+    ensures { λ r. ⌜ r .count ≡ length (firedOf policy world want) ⌝ }
+    ensures { λ r. ⌜ r .rules ≡ firedOf policy world want ++ replicate (128 - length (firedOf policy world want)) 0 ⌝ }
+{
+    let mut held = [false; 128];
+    let mut fired = [0u8; 128];
+    let mut n: usize = 0;
+    let rules = policy.rules as usize;
+    let goal = want as usize;
+    let levels = policy.level[goal] + 1;
+    'scan: for level in 0..levels {
+        'passes: loop {
+            let before = n;
+            'rules: for k in 0..rules {
+                let rule = policy.rule[k];
+                let head = rule.head as usize;
+                if policy.level[head] == level && fires(rule, &held, world) {
+                    held[head] = true;
+                    fired[n] = k as u8;
+                    n += 1;
+                    if head == goal {
+                        break 'scan;
+                    }
+                }
+            }
+            if n == before {
+                break 'passes;
+            }
+        }
+    }
+    if held[goal] {
+        let count = n as u8;
+        Fired {
+            count,
+            rules: fired,
+        }
+    } else {
+        Fired {
+            count: 0,
+            rules: [0u8; 128],
+        }
+    }
+}
