@@ -1,0 +1,54 @@
+-- What the calls return means what document 01 says of it.
+use Prim.Native.Nat.{ℕ, zero, suc}
+use mathlib.Core.List.{List, _++_}
+use mathlib.Core.Option.{Option, none, some}
+use mathlib.Core.Path.{_≡_, refl}
+use native.Mathlib.Omega.{arith}
+use lib.ListN.{length, drop}
+use Rattle.policy.specs.declared.Policy.{Policy}
+use Rattle.policy.specs.declared.Query.{Query}
+use Rattle.policy.specs.Questions.{firstNo, queryQuestions, Accepted}
+use Rattle.engine.specs.declared.Verdict.the-variants.{Refused as judge-refused, Judged}
+use Rattle.engine.specs.declared.Answer.the-variants.{Refused as choose-refused}
+use Rattle.engine.specs.declared.Listing.the-variants.{Refused as list-refused, Listed}
+use Rattle.engine.specs.Sets.{costOf}
+use Rattle.engine.specs.Calls.{refusedOr, offerQuestions, listQuestions, enough, slimSets, best, answer}
+use Rattle.engine.specs.Calls.{judgeOf, chooseOf, listOf, listAfter}
+use Rattle.engine.specs.Meaning.{Judges, Chooses, ListsSlim}
+use Rattle.engine.specs.Laws.Refusals.{offer-accepted, list-accepted}
+use Rattle.engine.specs.Laws.Decide.{enough-iff, best-found, none-found, lists}
+
+module _ (p : Policy) (q : Query) where
+  pub judge-means : (s : ℕ) → Judges p q s (judgeOf p q s)
+  unfolding judgeOf refusedOr
+  judge-means s = go (firstNo (offerQuestions p q s)) refl
+    where
+      go : (n : ℕ) → firstNo (offerQuestions p q s) ≡ n
+          → Judges p q s (refusedOr n judge-refused (Judged (record { enough = enough p q s; cost = costOf p s })))
+      go zero e = let known = offer-accepted p q s e in (e, enough-iff p q (known .0) s (known .1), refl)
+      go (suc n) e = (e, λ z. omega arith)
+
+  -- what was found is the best set, or no set is enough
+  answer-means : Accepted p q → (o : Option ℕ) → best p q ≡ o → Chooses p q (answer p (length (slimSets p q)) o)
+  unfolding answer
+  answer-means ok none e = (ok, none-found p q ok e)
+  answer-means ok (some s) e = (ok, best-found p q ok s e, refl, (lists p q ok, refl))
+
+  pub choose-means : Chooses p q (chooseOf p q)
+  unfolding chooseOf refusedOr Accepted
+  choose-means = go (firstNo (queryQuestions p q)) refl
+    where
+      go : (n : ℕ) → firstNo (queryQuestions p q) ≡ n
+          → Chooses p q (refusedOr n choose-refused (answer p (length (slimSets p q)) (best p q)))
+      go zero e = answer-means e (best p q) refl
+      go (suc n) e = (e, λ z. omega arith)
+
+  pub list-means : (before : List ℕ) → ListsSlim p q before (listAfter p q before) (listOf p q (length before))
+  unfolding listOf listAfter refusedOr
+  list-means before = go (firstNo (listQuestions p q (length before))) refl
+    where
+      go : (n : ℕ) → firstNo (listQuestions p q (length before)) ≡ n
+          → ListsSlim p q before (refusedOr n (λ k. before) (slimSets p q ++ drop (length (slimSets p q)) before))
+          (refusedOr n list-refused (Listed (length (slimSets p q))))
+      go zero e = (e, (lists p q (list-accepted p q (length before) e), refl), refl)
+      go (suc n) e = ((e, λ z. omega arith), refl)
