@@ -1,0 +1,42 @@
+-- `clear::results::put_result` meets its contract: the result worked out is the calls', and so is its text.
+use mathlib.Core.Path.{_∙_}
+use borrow.Author.Needs.{needs}
+use denote.Ref.{now}
+use Rattle.reader.specs.Written.{lineOf}
+use Rattle.clear.proofs.Putting.{both}
+use Rattle.clear.proofs.Texts.{same-result}
+use Rattle.clear.proofs.results.put_result.Statement.{statement}
+use Rattle.clear.proofs.results.put_result.Tie as tie
+
+work-requires : tie.Need-work-requires
+work-requires c κs = search needs
+
+slice-aggregate-line : tie.Need-slice-aggregate-line
+slice-aggregate-line c = search needs
+
+cast-line : tie.Need-cast-line
+cast-line c = search needs
+
+line-requires : tie.Need-line-requires
+line-requires c κs = search needs
+
+put-answer-requires : tie.Need-put-answer-requires
+put-answer-requires c κs = search needs
+
+returns : tie.Need-returns
+unfolding lineOf
+returns c =
+    let s = c .before .before .before .before .before .before .before .before .before in
+    let w = c .before .before .before .before .before .before .before .work in
+    let a = s .args in
+    let e = c .put-answer .ensures in
+    let whole = both (c .before .before .before .line .ensures .0) (e .0) in (
+      whole .holds ∙ same-result (a .policy) (a .query) (w .result) (now (a .places)) _ (s .pre .1) (w .ensures .0),
+      (e .1, (e .0 .long, w .ensures .1 ∙ s .pre .1)),
+    )
+
+pub put-result-spec : {M : Type 1} → statement M
+put-result-spec =
+    tie.close
+    (tie.spec
+    work-requires slice-aggregate-line cast-line line-requires put-answer-requires returns)
