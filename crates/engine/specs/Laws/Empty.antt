@@ -1,5 +1,5 @@
 -- The empty set, when enough, is the best and the only slim set.
-use Prim.Native.Nat.{ℕ, _≤_, _<_}
+use Prim.Native.Nat.{ℕ, _<_}
 use mathlib.Core.Logic.{_⊎_, inl, inr, _≢_}
 use mathlib.Core.Path.{_≡_, sym}
 use native.Mathlib.Decide.{ℕ-discrete}
