@@ -7,14 +7,14 @@ use mathlib.Core.Bool.{true, not, _||_}
 use mathlib.Core.Logic.{_⊎_, inl, inr, ⊎-elim, _≢_}
 use mathlib.Core.List.{List, [], _∷_, _++_, append-assoc, append-nil}
 use lib.ListN.{length, getD, length-append, List·getD-append}
-use lib.Dec.{T, T-not, not-T, eqb, leb}
+use lib.Dec.{T, T-not, not-T, eqb}
 use mir.Facts.{and-yes, yes-and, or-yes, eqb-yes, eqb-no, yes-eqb, no-eqb, leb-yes, yes-leb}
 use borrow.Author.Tests.{lt-ltb, le-ltb}
 use Rattle.mask.specs.Every.{every}
 use Rattle.reader.specs.Text.{decimal, decimalBy}
 use Rattle.reader.specs.Format.{isDigit, isNumber, spelt}
-use Rattle.mask.specs.Laws.Tests.{or-left, or-right}
-use Rattle.reader.specs.Laws.Tests.{four-yes, yes-four, between-yes, yes-between, every-both}
+use Rattle.mask.specs.Laws.Tests.{parts, or-left, or-right}
+use Rattle.reader.specs.Laws.Tests.{between-yes, yes-between, every-both}
 
 -- digits after digits go on from what the first spell
 spelt-append : (v : ℕ) (c d : List ℕ) → spelt v (c ++ d) ≡ spelt (spelt v c) d
@@ -103,35 +103,35 @@ digits-only x other (b ∷ c) t =
     (digits-only x other c (both .1))
 
 -- the four parts of a number's test
-record IsNumber (c : List ℕ) : Type 0 where
-  digits : T (every isDigit c)
-  some : 0 < length c
-  few : length c ≤ 5
-  leads : (length c ≡ 1) ⊎ (getD c 0 0 ≢ 48)
+pub record IsNumber (c : List ℕ) : Type 0 where
+  pub digits : T (every isDigit c)
+  pub some : 0 < length c
+  pub few : length c ≤ 5
+  pub leads : (length c ≡ 1) ⊎ (getD c 0 0 ≢ 48)
 
 -- they are what the test says, and back
-number-parts : (c : List ℕ) → T (isNumber c) → IsNumber c
+pub number-parts : (c : List ℕ) → T (isNumber c) → IsNumber c
 unfolding isNumber
-number-parts c t =
-    let all = four-yes (every isDigit c) (leb 1 (length c)) (leb (length c) 5) (eqb (length c) 1 || not (eqb (getD c 0 0) 48)) t in
-    record {
-      digits = all .0;
-      some = leb-yes (all .1);
-      few = leb-yes (all .2);
-      leads = elim (or-yes (eqb (length c) 1) (not (eqb (getD c 0 0) 48)) (all .3)) [
-        | inl one ↦ inl (eqb-yes one)
-        | inr other ↦ inr (eqb-no other)
-      ];
-    }
+number-parts c t = record {
+  digits = search parts;
+  some = leb-yes (search parts);
+  few = leb-yes (search parts);
+  leads = elim (or-yes (eqb (length c) 1) (not (eqb (getD c 0 0) 48)) (search parts)) [
+    | inl one ↦ inl (eqb-yes one)
+    | inr other ↦ inr (eqb-no other)
+  ];
+}
 
-parts-number : (c : List ℕ) → IsNumber c → T (isNumber c)
+pub parts-number : (c : List ℕ) → IsNumber c → T (isNumber c)
 unfolding isNumber
 parts-number c p =
-    yes-four (every isDigit c) (leb 1 (length c)) (leb (length c) 5) _ (p .digits) (yes-leb (p .some)) (yes-leb (p .few))
-    (elim (p .leads) [
+    let some = yes-leb (p .some) in
+    let few = yes-leb (p .few) in
+    let leads : T (eqb (length c) 1 || not (eqb (getD c 0 0) 48)) = elim (p .leads) [
       | inl one ↦ or-left (eqb (length c) 1) _ (yes-eqb one)
       | inr other ↦ or-right (eqb (length c) 1) _ (no-eqb other)
-    ])
+    ] in
+    search yes-and
 
 module _ (n : ℕ) (h : n < 100000) where
   -- the digits of n spell n
@@ -165,7 +165,7 @@ module _ (n : ℕ) (h : n < 100000) where
       })
 
 -- the bytes of the digits
-digit-range : (b : ℕ) → T (isDigit b) → (48 ≤ b) × (b ≤ 57)
+pub digit-range : (b : ℕ) → T (isDigit b) → (48 ≤ b) × (b ≤ 57)
 unfolding isDigit
 digit-range b t = between-yes 48 b 57 t
 

@@ -13,15 +13,14 @@ use Rattle.policy.specs.declared.Kind.the-variants.{Provision, Obligation}
 use Rattle.policy.specs.Record.{listed, levelsOf, actionsOf, rulesOf}
 use Rattle.reader.specs.declared.Reading.{Reading}
 use Rattle.reader.specs.Text.{decimal}
-use Rattle.reader.specs.Format.{fits}
 use Rattle.reader.specs.Written.{lineOf, letterOf, joined, commas, each, levelText, actionText, ruleText, queryText}
 use Rattle.reader.specs.Written.{entriesText, fileOf}
-use Rattle.reader.specs.Laws.All.{All, all-map}
-use Rattle.reader.specs.Laws.Tests.{list-parts}
+use Rattle.reader.specs.Laws.All.{All, all-head, all-tail}
+use Rattle.reader.specs.Laws.Tests.{fits-parts}
 use Rattle.reader.specs.Laws.Numbers.{decimalBy-length}
-use Rattle.reader.specs.Laws.Lists.{ListFits}
-use Rattle.reader.specs.Laws.Records.{ActionFits, RuleFits, QueryFits}
-use Rattle.reader.specs.Laws.Readings.{queriesOf, ReadingFits}
+use Rattle.reader.specs.Laws.Lists.{ReadableList}
+use Rattle.reader.specs.Laws.Records.{ReadableAction, ReadableRule, ReadableQuery}
+use Rattle.reader.specs.Laws.Readings.{queriesOf, ReadableLines}
 use Rattle.reader.specs.Laws.Files.{textOf}
 
 -- a number below 10 ^ k has at most k digits
@@ -38,22 +37,22 @@ line-length key c = simp length-append (omega arith)
 each-length : {A : Type 0} (f : A → List ℕ) (b : ℕ) (l : List A) → All (λ x. length (f x) ≤ b) l → length (each f l) ≤ b * length l
 unfolding each
 each-length f b [] h = omega arith
-each-length f b (x ∷ l) h = simp length-append (omega (arith, each-length f b l (h .1)))
+each-length f b (x ∷ l) h = simp length-append (omega (arith, all-head h, each-length f b l (all-tail h)))
 
 -- a list of numbers of at most three digits
 commas-length : (ds : List ℕ) → All (λ d. d < 1000) ds → length (commas ds) ≤ 4 * length ds - 1
 unfolding commas joined
 commas-length [] h = omega arith
-commas-length (d ∷ []) h = omega (arith, decimal-length 2 d (h .0))
+commas-length (d ∷ []) h = omega (arith, decimal-length 2 d (all-head h))
 commas-length (d ∷ (e ∷ ds)) h =
-    simp length-append (omega (arith, decimal-length 2 d (h .0), commas-length (e ∷ ds) (h .1)))
+    simp length-append (omega (arith, decimal-length 2 d (all-head h), commas-length (e ∷ ds) (all-tail h)))
 
 -- a list of at most 8 of them
-list-length : (n : ℕ) (ds : List ℕ) → n ≤ 128 → ListFits n ds → length (commas ds) ≤ 31
-unfolding ListFits fits
+list-length : (n : ℕ) (ds : List ℕ) → n ≤ 128 → ReadableList n ds → length (commas ds) ≤ 31
+unfolding ReadableList
 list-length n ds h f =
-    let parts = list-parts (length ds) n ds (f .0) in
-    omega (arith, parts .0, commas-length ds (all-map (λ d below. omega arith) ds (parts .1)))
+    let parts = fits-parts n ds (f .0) in
+    omega (arith, parts .0, commas-length ds (λ d m. omega (arith, parts .1 d m)))
 
 -- the texts of a kind, a level, an action, a rule and a query
 letter-length : (k : Kind) → length (letterOf k) ≡ 1
@@ -70,7 +69,7 @@ module _ (n m : ℕ) (few : n ≤ 128) (h : m ≤ 16) where
   mask-length : (x : ℕ) → x < 2 ^ m → length (decimal x) ≤ 5
   mask-length x less = decimal-length 4 x (omega (arith, pow-mono h))
 
-  action-length : (a : Action) → ActionFits m a → length (actionText a) ≤ 31
+  action-length : (a : Action) → ReadableAction m a → length (actionText a) ≤ 31
   unfolding actionText
   action-length a f =
       simp (length-append, line-length) (omega (
@@ -80,7 +79,7 @@ module _ (n m : ℕ) (few : n ≤ 128) (h : m ≤ 16) where
         mask-length (a .also) (f .mask),
       ))
 
-  rule-length : (r : Rule) → RuleFits n m r → length (ruleText r) ≤ 95
+  rule-length : (r : Rule) → ReadableRule n m r → length (ruleText r) ≤ 95
   unfolding ruleText
   rule-length r f =
       simp (length-append, line-length) (omega (
@@ -91,7 +90,7 @@ module _ (n m : ℕ) (few : n ≤ 128) (h : m ≤ 16) where
         list-length n (listed (r .unless)) few (f .unless-fit),
       ))
 
-  query-length : (q : Query) → QueryFits n m q → length (queryText q) ≤ 20
+  query-length : (q : Query) → ReadableQuery n m q → length (queryText q) ≤ 20
   unfolding queryText
   query-length q f =
       simp (length-append, line-length) (omega (
@@ -101,7 +100,7 @@ module _ (n m : ℕ) (few : n ≤ 128) (h : m ≤ 16) where
       ))
 
 -- the longest file
-pub file-length : (r : Reading) → ReadingFits r → length (textOf r) ≤ 27294
+pub file-length : (r : Reading) → ReadableLines r → length (textOf r) ≤ 27294
 unfolding fileOf entriesText
 file-length r f =
     let p = r .policy in
@@ -121,10 +120,10 @@ file-length r f =
       f .places,
       decimal-length 2 n (omega arith),
       decimal-length 1 m (omega arith),
-      each-length levelText 9 (levelsOf p) (all-map level-length (levelsOf p) (e .levels)),
-      each-length actionText 31 (actionsOf p) (all-map (action-length n m few masks) (actionsOf p) (e .action)),
+      each-length levelText 9 (levelsOf p) (λ l m. level-length l (e .levels l m)),
+      each-length actionText 31 (actionsOf p) (λ a k. action-length n m few masks a (e .action a k)),
       decimal-length 2 (p .rules) (omega (arith, e .few-rules)),
-      each-length ruleText 95 (rulesOf p) (all-map (rule-length n m few masks) (rulesOf p) (e .rule)),
+      each-length ruleText 95 (rulesOf p) (λ r k. rule-length n m few masks r (e .rule r k)),
       decimal-length 1 (r .queries .count) (omega (arith, f .few)),
-      each-length queryText 20 (queriesOf r) (all-map (query-length n m few masks) (queriesOf r) (f .queries)),
+      each-length queryText 20 (queriesOf r) (λ q k. query-length n m few masks q (f .queries q k)),
     ))
