@@ -8,9 +8,6 @@ use Rattle.clear.proofs.Putting.{both, same-text, comma-first, comma-ot
 use Rattle.clear.proofs.out.entry.Statement.{statement}
 use Rattle.clear.proofs.out.entry.Tie as tie
 
-number-requires : tie.Need-number-requires
-number-requires c κs = search needs
-
 returns : tie.Need-returns
 returns c =
     let s = c .before .before .before in
@@ -19,15 +16,6 @@ returns c =
       same-text (ap (λ l. l ++ decimal n) (sym none)) (c .number .ensures .0),
       omega (arith, c .number .ensures .0 .ends, five-digits n (s .fits .n .fits)),
     )
-
-slice-aggregate-put : tie.Need-slice-aggregate-put
-slice-aggregate-put c = search needs
-
-put-requires : tie.Need-put-requires
-put-requires c κs = search needs
-
-number-requires-2 : tie.Need-number-requires-2
-number-requires-2 c κs = search needs
 
 returns-2 : tie.Need-returns-2
 returns-2 c =
@@ -42,4 +30,5 @@ returns-2 c =
 pub entry-spec : {M : Type 1} → statement M
 entry-spec =
     tie.close
-    (tie.spec number-requires returns slice-aggregate-put put-requires number-requires-2 returns-2)
+    (tie.spec
+    (λ c κs. search needs) returns (λ c. search needs) (λ c κs. search needs) (λ c κs. search needs) returns-2)

@@ -5,18 +5,6 @@ use Rattle.clear.proofs.Putting.{both}
 use Rattle.clear.proofs.out.line.Statement.{statement}
 use Rattle.clear.proofs.out.line.Tie as tie
 
-put-requires : tie.Need-put-requires
-put-requires c κs = search needs
-
-number-requires : tie.Need-number-requires
-number-requires c κs = search needs
-
-slice-aggregate-put : tie.Need-slice-aggregate-put
-slice-aggregate-put c = search needs
-
-put-requires-2 : tie.Need-put-requires-2
-put-requires-2 c κs = search needs
-
 returns : tie.Need-returns
 returns c =
     let n = c .before .before .before .number in
@@ -25,4 +13,6 @@ returns c =
 
 pub line-spec : {M : Type 1} → statement M
 line-spec =
-    tie.close (tie.spec put-requires number-requires slice-aggregate-put put-requires-2 returns)
+    tie.close
+    (tie.spec
+    (λ c κs. search needs) (λ c κs. search needs) (λ c. search needs) (λ c κs. search needs) returns)

@@ -7,18 +7,6 @@ use Rattle.clear.specs.Printed.{written}
 use Rattle.clear.proofs.results.listed.Statement.{statement}
 use Rattle.clear.proofs.results.listed.Tie as tie
 
-enum-known-listing : tie.Need-enum-known-listing
-enum-known-listing c = search needs
-
-cast-held : tie.Need-cast-held
-cast-held c = search needs
-
-held-requires : tie.Need-held-requires
-held-requires c κs = search needs
-
-enum-told : tie.Need-enum-told
-enum-told c = search needs
-
 returns : tie.Need-returns
 unfolding written
 returns c = c .held .ensures ∙ ap (λ (l : Listing). min (written l) 32768) (sym (c .before .before .listing .given .1))
@@ -29,4 +17,6 @@ returns-2 c = ap (λ (l : Listing). min (written l) 32768) (sym (c .enum-told .g
 
 pub listed-spec : {M : Type 1} → statement M
 listed-spec =
-    tie.close (tie.spec enum-known-listing cast-held held-requires enum-told returns returns-2)
+    tie.close
+    (tie.spec
+    (λ c. search needs) (λ c. search needs) (λ c κs. search needs) (λ c. search needs) returns returns-2)

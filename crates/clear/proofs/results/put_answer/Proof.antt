@@ -19,39 +19,6 @@ use Rattle.clear.proofs.results.put_answer.Tie as tie
 abbrev lines : QueryResult → List ℕ → Answer → List ℕ
 lines r places a = answerText a (take (written (r .listing)) places) (λ _. take (r .firing .count) (r .firing .rules))
 
-enum-known-answer : tie.Need-enum-known-answer
-enum-known-answer c = search needs
-
-slice-aggregate-line : tie.Need-slice-aggregate-line
-slice-aggregate-line c = search needs
-
-cast-line : tie.Need-cast-line
-cast-line c = search needs
-
-line-requires : tie.Need-line-requires
-line-requires c κs = search needs
-
-enum-told : tie.Need-enum-told
-enum-told c = search needs
-
-slice-aggregate-put : tie.Need-slice-aggregate-put
-slice-aggregate-put c = search needs
-
-put-requires : tie.Need-put-requires
-put-requires c κs = search needs
-
-enum-known-answer-2 : tie.Need-enum-known-answer-2
-enum-known-answer-2 c = search needs
-
-put-choice-requires : tie.Need-put-choice-requires
-put-choice-requires c κs = search needs
-
-put-list-requires : tie.Need-put-list-requires
-put-list-requires c κs = search needs
-
-put-fired-requires : tie.Need-put-fired-requires
-put-fired-requires c κs = search needs
-
 returns : tie.Need-returns
 unfolding answerText lineOf
 returns c =
@@ -81,5 +48,6 @@ pub put-answer-spec : {M : Type 1} → statement M
 put-answer-spec =
     tie.close
     (tie.spec
-    enum-known-answer slice-aggregate-line cast-line line-requires enum-told slice-aggregate-put put-requires enum-known-answer-2
-    put-choice-requires put-list-requires put-fired-requires returns returns-2 returns-3)
+    (λ c. search needs) (λ c. search needs) (λ c. search needs) (λ c κs. search needs) (λ c. search needs) (λ c. search needs)
+    (λ c κs. search needs) (λ c. search needs) (λ c κs. search needs) (λ c κs. search needs) (λ c κs. search needs) returns returns-2
+    returns-3)

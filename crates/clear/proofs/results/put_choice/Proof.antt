@@ -6,27 +6,6 @@ use Rattle.clear.proofs.Putting.{both}
 use Rattle.clear.proofs.results.put_choice.Statement.{statement}
 use Rattle.clear.proofs.results.put_choice.Tie as tie
 
-cast-mask : tie.Need-cast-mask
-cast-mask c = search needs
-
-slice-aggregate-line : tie.Need-slice-aggregate-line
-slice-aggregate-line c = search needs
-
-line-requires : tie.Need-line-requires
-line-requires c κs = search needs
-
-slice-aggregate-line-2 : tie.Need-slice-aggregate-line-2
-slice-aggregate-line-2 c = search needs
-
-line-requires-2 : tie.Need-line-requires-2
-line-requires-2 c κs = search needs
-
-slice-aggregate-line-3 : tie.Need-slice-aggregate-line-3
-slice-aggregate-line-3 c = search needs
-
-line-requires-3 : tie.Need-line-requires-3
-line-requires-3 c κs = search needs
-
 returns : tie.Need-returns
 unfolding lineOf
 returns c =
@@ -40,5 +19,5 @@ pub put-choice-spec : {M : Type 1} → statement M
 put-choice-spec =
     tie.close
     (tie.spec
-    cast-mask slice-aggregate-line line-requires slice-aggregate-line-2 line-requires-2 slice-aggregate-line-3 line-requires-3
-    returns)
+    (λ c. search needs) (λ c. search needs) (λ c κs. search needs) (λ c. search needs) (λ c κs. search needs) (λ c. search needs)
+    (λ c κs. search needs) returns)

@@ -12,27 +12,6 @@ use Rattle.mask.proofs.Every.{take-min}
 use Rattle.clear.proofs.results.put_fired.Statement.{statement}
 use Rattle.clear.proofs.results.put_fired.Tie as tie
 
-slice-aggregate-put : tie.Need-slice-aggregate-put
-slice-aggregate-put c = search needs
-
-put-requires : tie.Need-put-requires
-put-requires c κs = search needs
-
-cast-held : tie.Need-cast-held
-cast-held c = search needs
-
-held-requires : tie.Need-held-requires
-held-requires c κs = search needs
-
-put-rules-requires : tie.Need-put-rules-requires
-put-rules-requires c κs = search needs
-
-slice-aggregate-put-2 : tie.Need-slice-aggregate-put-2
-slice-aggregate-put-2 c = search needs
-
-put-requires-2 : tie.Need-put-requires-2
-put-requires-2 c κs = search needs
-
 returns : tie.Need-returns
 unfolding lineOf
 returns c =
@@ -52,4 +31,5 @@ pub put-fired-spec : {M : Type 1} → statement M
 put-fired-spec =
     tie.close
     (tie.spec
-    slice-aggregate-put put-requires cast-held held-requires put-rules-requires slice-aggregate-put-2 put-requires-2 returns)
+    (λ c. search needs) (λ c κs. search needs) (λ c. search needs) (λ c κs. search needs) (λ c κs. search needs) (λ c. search needs)
+    (λ c κs. search needs) returns)

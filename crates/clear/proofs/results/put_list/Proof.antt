@@ -14,24 +14,6 @@ use Rattle.mask.proofs.Every.{take-min}
 use Rattle.clear.proofs.results.put_list.Statement.{statement}
 use Rattle.clear.proofs.results.put_list.Tie as tie
 
-slice-aggregate-put : tie.Need-slice-aggregate-put
-slice-aggregate-put c = search needs
-
-put-requires : tie.Need-put-requires
-put-requires c κs = search needs
-
-listed-requires : tie.Need-listed-requires
-listed-requires c κs = search needs
-
-put-sets-requires : tie.Need-put-sets-requires
-put-sets-requires c κs = search needs
-
-slice-aggregate-put-2 : tie.Need-slice-aggregate-put-2
-slice-aggregate-put-2 c = search needs
-
-put-requires-2 : tie.Need-put-requires-2
-put-requires-2 c κs = search needs
-
 returns : tie.Need-returns
 unfolding lineOf
 returns c =
@@ -50,4 +32,5 @@ pub put-list-spec : {M : Type 1} → statement M
 put-list-spec =
     tie.close
     (tie.spec
-    slice-aggregate-put put-requires listed-requires put-sets-requires slice-aggregate-put-2 put-requires-2 returns)
+    (λ c. search needs) (λ c κs. search needs) (λ c κs. search needs) (λ c κs. search needs) (λ c. search needs)
+    (λ c κs. search needs) returns)

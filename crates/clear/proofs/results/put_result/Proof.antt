@@ -8,21 +8,6 @@ use Rattle.clear.proofs.Texts.{same-result}
 use Rattle.clear.proofs.results.put_result.Statement.{statement}
 use Rattle.clear.proofs.results.put_result.Tie as tie
 
-work-requires : tie.Need-work-requires
-work-requires c κs = search needs
-
-slice-aggregate-line : tie.Need-slice-aggregate-line
-slice-aggregate-line c = search needs
-
-cast-line : tie.Need-cast-line
-cast-line c = search needs
-
-line-requires : tie.Need-line-requires
-line-requires c κs = search needs
-
-put-answer-requires : tie.Need-put-answer-requires
-put-answer-requires c κs = search needs
-
 returns : tie.Need-returns
 unfolding lineOf
 returns c =
@@ -39,4 +24,4 @@ pub put-result-spec : {M : Type 1} → statement M
 put-result-spec =
     tie.close
     (tie.spec
-    work-requires slice-aggregate-line cast-line line-requires put-answer-requires returns)
+    (λ c κs. search needs) (λ c. search needs) (λ c. search needs) (λ c κs. search needs) (λ c κs. search needs) returns)

@@ -24,21 +24,6 @@ loop-holds : tie.Need-loop-holds Inv-loop μ-loop
 unfolding commas joined
 loop-holds c = (omega arith, omega arith, nothing (now (c .args .buffer)) (c .args .at) (c .pre .0))
 
-array-read-wide : tie.Need-array-read-wide Inv-loop μ-loop
-array-read-wide c = omega arith
-
-wide-requires : tie.Need-wide-requires Inv-loop μ-loop
-wide-requires c κs = search needs
-
-entry-requires : tie.Need-entry-requires Inv-loop μ-loop
-entry-requires c κs = search needs
-
-add-i : tie.Need-add-i Inv-loop μ-loop
-add-i c = omega arith
-
-loop-less : tie.Need-loop-less Inv-loop μ-loop
-loop-less c = omega arith
-
 loop-again : tie.Need-loop-again Inv-loop μ-loop
 loop-again c =
     let l = c .before .before .before .before .loop in
@@ -58,4 +43,5 @@ pub put-rules-spec : {M : Type 1} → statement M
 put-rules-spec =
     tie.close
     (tie.spec
-    Inv-loop μ-loop loop-holds array-read-wide wide-requires entry-requires add-i loop-less loop-again returns)
+    Inv-loop μ-loop loop-holds (λ c. omega arith) (λ c κs. search needs) (λ c κs. search needs) (λ c. omega arith) (λ c. omega arith)
+    loop-again returns)

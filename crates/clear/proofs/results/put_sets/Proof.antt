@@ -22,21 +22,6 @@ loop-holds : tie.Need-loop-holds Inv-loop μ-loop
 unfolding commas joined
 loop-holds c = (omega arith, omega arith, nothing (now (c .args .buffer)) (c .args .at) (c .pre .0))
 
-mul-entry : tie.Need-mul-entry Inv-loop μ-loop
-mul-entry c = omega arith
-
-element-copy-out-entry : tie.Need-element-copy-out-entry Inv-loop μ-loop
-element-copy-out-entry c = omega arith
-
-entry-requires : tie.Need-entry-requires Inv-loop μ-loop
-entry-requires c κs = search needs
-
-add-i : tie.Need-add-i Inv-loop μ-loop
-add-i c = omega arith
-
-loop-less : tie.Need-loop-less Inv-loop μ-loop
-loop-less c = omega arith
-
 loop-again : tie.Need-loop-again Inv-loop μ-loop
 loop-again c =
     let l = c .before .before .before .before .loop in
@@ -55,4 +40,5 @@ pub put-sets-spec : {M : Type 1} → statement M
 put-sets-spec =
     tie.close
     (tie.spec
-    Inv-loop μ-loop loop-holds mul-entry element-copy-out-entry entry-requires add-i loop-less loop-again returns)
+    Inv-loop μ-loop loop-holds (λ c. omega arith) (λ c. omega arith) (λ c κs. search needs) (λ c. omega arith) (λ c. omega arith)
+    loop-again returns)
