@@ -9,7 +9,7 @@ use lib.Seq.{paste, take-paste, take-length, length-paste, take-suc, length-take
 use Rattle.reader.specs.Text.{ascii, decimal}
 use Rattle.reader.specs.Laws.Numbers.{decimalBy-length}
 use Rattle.reader.specs.Written.{joined, commas}
-use Rattle.clear.specs.Put.{Puts, comma}
+use Rattle.clear.specs.Laws.Put.{Puts, comma}
 
 -- a text that is copied whole is put
 pub pasted : (before text after : List ℕ) (at : ℕ) → length before ≡ 200000 → at + length text ≤ 200000

@@ -16,7 +16,7 @@ use Rattle.engine.specs.Calls.{refusedOr, slimSets, listQuestions, chooseOf, li
 use Rattle.reader.specs.Text.{ascii, decimal}
 use Rattle.reader.specs.Written.{lineOf, commas}
 use Rattle.clear.specs.declared.results.QueryResult.{QueryResult}
-use Rattle.clear.specs.Worked.{Worked, ForBest}
+use Rattle.clear.specs.Laws.Worked.{Worked, ForBest}
 use Rattle.clear.specs.Printed.{written, answerText, setsListed, rulesFired, textOf}
 
 -- the lines of a choice, with the sets listed and the rules fired

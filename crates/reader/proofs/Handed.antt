@@ -17,7 +17,7 @@ use Rattle.reader.specs.Parser.{Parser, found, onward, _>>_, pure, ask, 
 use Rattle.reader.specs.File.{refusedReading, lines, file, handed, readOf}
 use Rattle.reader.specs.Laws.Readings.{lines-reads}
 use Rattle.reader.specs.Laws.Asked.{policy-range, policy-rises}
-use Rattle.reader.specs.Places.{onFrom, Parsed}
+use Rattle.reader.specs.Laws.Places.{onFrom, Parsed}
 use Rattle.reader.proofs.Bytes.{from}
 use Rattle.reader.proofs.Steps.{stays, found-at, refused-at, next}
 

@@ -8,7 +8,7 @@ use denote.Ref.{now}
 use lib.ListN.{take, length}
 use Rattle.reader.specs.Text.{decimal}
 use Rattle.reader.specs.Written.{commas, joined}
-use Rattle.clear.specs.Put.{Puts, comma}
+use Rattle.clear.specs.Laws.Put.{Puts, comma}
 use Rattle.clear.proofs.Putting.{nothing, one-entry, same-text}
 use Rattle.clear.proofs.results.put_rules.Statement.{statement}
 use Rattle.clear.proofs.results.put_rules.Tie as tie

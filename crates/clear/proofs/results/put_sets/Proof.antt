@@ -6,7 +6,7 @@ use borrow.Author.Needs.{needs}
 use denote.Ref.{now}
 use lib.ListN.{take, length}
 use Rattle.reader.specs.Written.{commas, joined}
-use Rattle.clear.specs.Put.{Puts}
+use Rattle.clear.specs.Laws.Put.{Puts}
 use Rattle.clear.proofs.Putting.{nothing, one-entry, same-text}
 use Rattle.clear.proofs.results.put_sets.Statement.{statement}
 use Rattle.clear.proofs.results.put_sets.Tie as tie

@@ -7,7 +7,7 @@ use lib.ListN.{replicate}
 use Rattle.policy.specs.Record.{noAction}
 use Rattle.reader.specs.Format.{filled}
 use Rattle.reader.specs.File.{action}
-use Rattle.reader.specs.Places.{ParsedTimes}
+use Rattle.reader.specs.Laws.Places.{ParsedTimes}
 use Rattle.reader.proofs.Steps.{next, ends, begins, turns, all-turns}
 use Rattle.reader.proofs.entries.read_actions.Statement.{statement}
 use Rattle.reader.proofs.entries.read_actions.Tie as tie

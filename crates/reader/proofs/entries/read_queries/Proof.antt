@@ -5,7 +5,7 @@ use native.Mathlib.Omega.{arith}
 use borrow.Author.Needs.{needs}
 use Rattle.reader.specs.Format.{filled}
 use Rattle.reader.specs.File.{zeroQuery, query}
-use Rattle.reader.specs.Places.{ParsedTimes}
+use Rattle.reader.specs.Laws.Places.{ParsedTimes}
 use Rattle.reader.proofs.Steps.{next, ends, begins, turns, all-turns}
 use Rattle.reader.proofs.entries.read_queries.Statement.{statement}
 use Rattle.reader.proofs.entries.read_queries.Tie as tie

@@ -6,7 +6,7 @@ use borrow.Author.Needs.{needs}
 use lib.ListN.{replicate}
 use Rattle.reader.specs.Format.{filled}
 use Rattle.reader.specs.File.{zeroRule, rule}
-use Rattle.reader.specs.Places.{ParsedTimes}
+use Rattle.reader.specs.Laws.Places.{ParsedTimes}
 use Rattle.reader.proofs.Steps.{next, ends, begins, turns, all-turns}
 use Rattle.reader.proofs.entries.read_rules.Statement.{statement}
 use Rattle.reader.proofs.entries.read_rules.Tie as tie
