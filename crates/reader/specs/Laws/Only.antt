@@ -1,0 +1,95 @@
+-- The lines of a file state one record: what is read of it.
+use Prim.Native.Nat.{ℕ, zero, suc, _≤_, _<_}
+use native.Mathlib.Omega.{arith}
+use mathlib.Core.Path.{_≡_, refl, sym, ap, _∙_}
+use mathlib.Core.Bool.{true}
+use mathlib.Core.List.{List, [], _∷_, map}
+use lib.ListN.{length, take, getD, List·getD-append, length-map, length-take}
+use lib.Seq.{getD-take}
+use Rattle.policy.specs.declared.Rule.{Rule}
+use Rattle.policy.specs.declared.Decisions.{Decisions}
+use Rattle.policy.specs.Record.{listed, levelsOf, actionsOf, rulesOf, ruleOf, noAction, noRule}
+use Rattle.policy.specs.Laws.{answers, InRange, in-range}
+use Rattle.engine.specs.Calls.{checkOf}
+use Rattle.reader.specs.declared.Reading.{Reading}
+use Rattle.reader.specs.Format.{filled, decisionsOf}
+use Rattle.reader.specs.File.{zeroRule, zeroQuery, recordOf, readingOf, readOf}
+use Rattle.reader.specs.Cleared.{clearedRule, cleared, clearedReading}
+use Rattle.reader.specs.Claim.{States}
+use Rattle.reader.specs.Laws.Back.{Sized, filled-length, reads-back}
+
+-- the entry at i of a list with f of each entry
+map-at : {A B : Type 0} (f : A → B) (d : A) (e : B) (l : List A) (i : ℕ) → i < length l → getD (map f l) i e ≡ f (getD l i d)
+map-at f d e [] i h = absurd (omega arith)
+map-at f d e (x ∷ l) zero h = refl
+map-at f d e (x ∷ l) (suc i) h = map-at f d e l i (omega arith)
+
+module _ (s : List ℕ) (r : Reading) (stated : States s r) where
+  range : InRange (r .policy)
+  unfolding checkOf
+  range = in-range (r .policy) (answers (r .policy) true (stated .policy) .range)
+
+  -- its arrays are filled up with zeros, and so are full
+  levels-full : length (r .policy .level) ≡ 128
+  unfolding clearedReading readingOf cleared recordOf
+  levels-full =
+      let p = r .policy in
+      ap (λ (x : Reading). length (x .policy .level)) (stated .clear)
+      ∙ filled-length 128 0 (levelsOf p) (omega (arith, length-take (p .decisions) (p .level), range .decisions))
+
+  actions-full : length (r .policy .action) ≡ 16
+  unfolding clearedReading readingOf cleared recordOf
+  actions-full =
+      let p = r .policy in
+      ap (λ (x : Reading). length (x .policy .action)) (stated .clear)
+      ∙ filled-length 16 noAction (actionsOf p) (omega (arith, length-take (p .actions) (p .action), range .actions))
+
+  rules-full : length (r .policy .rule) ≡ 256
+  unfolding clearedReading readingOf cleared recordOf
+  rules-full =
+      let p = r .policy in
+      ap (λ (x : Reading). length (x .policy .rule)) (stated .clear)
+      ∙ filled-length 256 zeroRule (map clearedRule (rulesOf p))
+      (omega (arith, length-map (rulesOf p) clearedRule, length-take (p .rules) (p .rule), range .rules))
+
+  queries-full : length (r .queries .at) ≡ 64
+  unfolding clearedReading readingOf
+  queries-full =
+      ap (λ (x : Reading). length (x .queries .at)) (stated .clear)
+      ∙ filled-length 64 zeroQuery (take (r .queries .count) (r .queries .at))
+      (omega (arith, length-take (r .queries .count) (r .queries .at), stated .few))
+
+  -- and so are the lists of its rules
+  rule-clear : (k : ℕ) → k < r .policy .rules → ruleOf (r .policy) k ≡ clearedRule (ruleOf (r .policy) k)
+  unfolding clearedReading readingOf cleared recordOf filled
+  rule-clear k less =
+      let p = r .policy in
+      let here : k < length (rulesOf p) = omega (arith, length-take (p .rules) (p .rule), rules-full, range .rules) in
+      ap (λ (x : Reading). getD (x .policy .rule) k noRule) (stated .clear)
+      ∙ List·getD-append (map clearedRule (rulesOf p)) _ noRule k (omega (arith, length-map (rulesOf p) clearedRule))
+      ∙ map-at clearedRule noRule noRule (rulesOf p) k here ∙ ap clearedRule (getD-take (p .rules) (p .rule) k noRule less)
+
+  list-full : (k : ℕ) → k < r .policy .rules → (list : Rule → Decisions) → list (clearedRule (ruleOf (r .policy) k))
+      ≡ decisionsOf (listed (list (ruleOf (r .policy) k))) → list (ruleOf (r .policy) k) .count ≤ 8
+      → length (list (ruleOf (r .policy) k) .at) ≡ 8
+  unfolding decisionsOf
+  list-full k less list clear few =
+      let l = list (ruleOf (r .policy) k) in
+      ap (λ (x : Decisions). length (x .at)) (ap list (rule-clear k less) ∙ clear)
+      ∙ filled-length 8 0 (listed l) (omega (arith, length-take (l .count) (l .at)))
+
+  sized : Sized (r .policy) (r .queries .at)
+  unfolding clearedRule
+  sized = record {
+    levels = levels-full;
+    actions = actions-full;
+    rules = rules-full;
+    queries = queries-full;
+    ifs = λ k less. list-full k less (λ x. x .ifs) refl (range .rule k less .ifs .count);
+    unless = λ k less. list-full k less (λ x. x .unless) refl (range .rule k less .unless .count);
+  }
+
+  pub only : r ≡ readOf s
+  only =
+      let back = reads-back (r .policy) (r .queries .count) (r .queries .at) sized (stated .few) (stated .policy) (stated .queries) in
+      stated .clear ∙ sym back ∙ ap readOf (sym (stated .text))
