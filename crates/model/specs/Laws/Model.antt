@@ -1,0 +1,111 @@
+-- The decisions that have a derivation are the stratified model of the world, and the only one.
+use Prim.Native.Nat.{ℕ, zero, suc, _≤_, _<_}
+use mathlib.Core.Bool.{true, false}
+use mathlib.Core.List.{List, [], _∷_, _++_, List·Memᴰ, List·Memᴰ·head, Memᴰ·append-right}
+use mathlib.Core.Logic.{_⊎_, inl, inr, ⊎-elim, _↔_}
+use mathlib.Core.Path.{_≡_, refl, sym, subst}
+use native.Mathlib.Nat.{eq-or-lt-of-le, le-refl}
+use native.Mathlib.Omega.{arith}
+use lib.ListN.{List·getD-eq-default}
+use Rattle.mask.specs.Laws.Tests.{untrue, last-or-below}
+use Rattle.policy.specs.declared.Policy.{Policy}
+use Rattle.policy.specs.declared.Query.{Query}
+use Rattle.policy.specs.Questions.{Accepted}
+use Rattle.policy.specs.Record.{headOf, levelOf}
+use Rattle.model.specs.Derivation.{Steps, Derivation, Derivable}
+use Rattle.model.specs.Fire.{State, holds, upTo}
+use Rattle.model.specs.Model.{Applies, Model, IsModel}
+use Rattle.model.specs.Laws.Strata.{Stratified, stratified}
+use Rattle.model.specs.Laws.Each.{Each, each-nil, each-head, each-tail, each-cons}
+use Rattle.model.specs.Laws.Derived.{unfolds, levels-of}
+use Rattle.model.specs.Laws.Invariant.{Good, lower-held}
+use Rattle.model.specs.Laws.Levels.{good-upTo}
+
+module _ (p : Policy) (w : ℕ) (s : Stratified p) where
+  -- the decision 128, which no rule gives, is wanted in vain: so every level is worked to its end
+  whole : State
+  whole = upTo p w 128 16
+
+  good : Good p w 128 16 whole
+  unfolding whole
+  good = good-upTo p w 128 s 16
+
+  in-vain : holds whole 128 ≡ false
+  in-vain = List·getD-eq-default (whole .held) false {n = 128} (omega (arith, good .size))
+
+  -- the head of every rule that applies has a derivation
+  derivable-closed : (k : ℕ) → Applies p w (Derivable p w) (Derivable p w) k → Derivable p w (headOf p k)
+  derivable-closed k a = good .sound (headOf p k) (good .closed in-vain k (a .exists) (s .levels k (a .exists)) (record {
+    enabled = a .enabled;
+    ifs = λ d m. lower-held p w 128 s 16 whole good in-vain d
+        (omega (arith, s .ifs k d (a .exists) m, s .levels k (a .exists))) (a .ifs d m);
+    unless = λ d m. untrue (holds whole d) λ h. a .unless d m (good .sound d h);
+  }))
+
+  -- along a derivation every head has one, and is in each set that the level's rules ask for
+  module _ (n : ℕ) (X : ℕ → Type 0) (agrees : (d : ℕ) → levelOf p d < n → X d ↔ Derivable p w d)
+      (closed : (k : ℕ) → levelOf p (headOf p k) ≡ n → Applies p w X (Derivable p w) k → X (headOf p k)) where
+    heads-in : (seen ks : List ℕ) → Each (λ d. X d × Derivable p w d) seen → Each (λ k. levelOf p (headOf p k) ≤ n) ks
+        → Steps p w (Derivable p w) seen ks → Each (λ k. X (headOf p k)) ks
+    heads-in seen [] hs ls ts = each-nil _
+    heads-in seen (k ∷ ks) hs ls ts = each-cons here (heads-in (headOf p k ∷ seen) ks (each-cons (here, derived) hs) (each-tail ls) (ts .1))
+      where
+        derived : Derivable p w (headOf p k)
+        derived = derivable-closed k (record {
+          exists = ts .0 .exists;
+          enabled = ts .0 .enabled;
+          ifs = λ d m. hs d (ts .0 .ifs d m) .1;
+          unless = ts .0 .unless;
+        })
+
+        here : X (headOf p k)
+        here = ⊎-elim
+            (λ (e : levelOf p (headOf p k) ≡ n). closed k e (record {
+              exists = ts .0 .exists;
+              enabled = ts .0 .enabled;
+              ifs = λ d m. hs d (ts .0 .ifs d m) .0;
+              unless = ts .0 .unless;
+            }))
+            (λ (l : levelOf p (headOf p k) < n). agrees (headOf p k) l .1 derived) (eq-or-lt-of-le (each-head ls))
+
+    derivable-least : (d : ℕ) → levelOf p d ≡ n → Derivable p w d → X d
+    derivable-least d e t = go (unfolds p w s d .0 t)
+      where
+        go : (before : List ℕ) × (last : ℕ) × Derivation p w (Derivable p w) d before last → X d
+        go (before, last, v) = subst X (v .ends) (heads-in [] (before ++ (last ∷ [])) (each-nil _)
+            (λ k m. omega (arith, levels-of p w s v k m)) (v .steps) last (Memᴰ·append-right before (List·Memᴰ·head refl)))
+
+  -- so the derivable decisions are the stratified model
+  derivable-model : Model p w (Derivable p w)
+  derivable-model = record { closed = derivable-closed; least = derivable-least }
+
+  -- a model is closed, at a level, under the rules that apply by another one that agrees with it at lower levels
+  closed-by : (M N : ℕ → Type 0) → Model p w N → (n : ℕ) → ((d : ℕ) → levelOf p d < n → M d ↔ N d)
+      → (k : ℕ) → levelOf p (headOf p k) ≡ n → Applies p w N M k → N (headOf p k)
+  closed-by M N model n agree k e a = model .closed k (record {
+    exists = a .exists;
+    enabled = a .enabled;
+    ifs = a .ifs;
+    unless = λ d m x. a .unless d m (agree d (omega (arith, s .unless k d (a .exists) m)) .1 x);
+  })
+
+  -- two models that agree below a level agree at it
+  agree-next : (M N : ℕ → Type 0) → Model p w M → Model p w N → (n : ℕ) → ((d : ℕ) → levelOf p d < n → M d ↔ N d)
+      → (d : ℕ) → levelOf p d < suc n → M d ↔ N d
+  agree-next M N m o n lower d h = ⊎-elim {C = M d ↔ N d}
+      (λ (e : levelOf p d ≡ n). (m .least n N back (closed-by M N o n lower) d e, o .least n M lower (closed-by N M m n back) d e))
+      (lower d) (last-or-below h)
+    where
+      back : (c : ℕ) → levelOf p c < n → N c ↔ M c
+      back c l = (lower c l .1, lower c l .0)
+
+  agree : (M N : ℕ → Type 0) → Model p w M → Model p w N → (n d : ℕ) → levelOf p d < n → M d ↔ N d
+  agree M N m o zero d h = absurd (omega arith)
+  agree M N m o (suc n) d h = agree-next M N m o n (agree M N m o n) d h
+
+  -- so there is no other
+  only-model : (M : ℕ → Type 0) → Model p w M → (d : ℕ) → M d ↔ Derivable p w d
+  only-model M m d = agree M (Derivable p w) m derivable-model (suc (levelOf p d)) d (le-refl (suc (levelOf p d)))
+
+pub is-model : (p : Policy) (q : Query) → Accepted p q → (w : ℕ) → IsModel p w
+is-model p q ok w = let s = stratified p q ok in record { model = derivable-model p w s; only = only-model p w s }
