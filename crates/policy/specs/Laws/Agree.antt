@@ -74,5 +74,6 @@ agree p p′ s = λ i. record {
 }
   where
     rules : map cutRule (take (p .rules) (p .rule)) ≡ map cutRule (take (p′ .rules) (p′ .rule))
-    rules = map-take cutRule noRule (p .rules) (p .rule) (p′ .rule) (s .rule-size) (λ k h. same-rule (ruleOf p k) (ruleOf p′ k) (s .rule k h))
+    rules = map-take cutRule noRule (p .rules) (p .rule) (p′ .rule) (s .rule-size)
+        (λ k h. same-rule (ruleOf p k) (ruleOf p′ k) (s .rule k h))
         ∙ ap (λ (c : ℕ). map cutRule (take c (p′ .rule))) (s .rules)
