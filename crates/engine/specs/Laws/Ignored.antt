@@ -16,7 +16,6 @@ use Rattle.policy.specs.Record.{cut, Agree}
 use Rattle.policy.specs.Questions.{firstNo, questions, queryInRange, inRange}
 use Rattle.policy.specs.Laws.{answers, accepted}
 use Rattle.policy.specs.Laws.Cut.{weight-cut, questions-cut}
-use Rattle.policy.specs.Laws.Agree.{SameBelow, agree}
 use Rattle.model.specs.Laws.Cut.{world-cut, fired-cut}
 use Rattle.engine.specs.Sets.{weighed, costOf}
 use Rattle.engine.specs.Family.{lighter, takenWithin, minimal, lightest}
@@ -162,7 +161,3 @@ ignored p p′ e = let a = cut-same p in let b = cut-same p′ in record {
   list = λ q places. sym (a .list q places) ∙ ap (λ (r : Policy). listOf r q places) e ∙ b .list q places;
   after = λ q before. sym (a .after q before) ∙ ap (λ (r : Policy). listAfter r q before) e ∙ b .after q before;
 }
-
--- in particular two with arrays of the same sizes in which each entry below a count is the same
-pub past-ignored : (p p′ : Policy) → SameBelow p p′ → Ignored p p′
-past-ignored p p′ s = ignored p p′ (agree p p′ s)

@@ -1,14 +1,14 @@
 -- The questions look at no entry past a count: of a record and of the record without such entries they are answered alike.
 use Prim.Native.Nat.{ℕ, zero, suc, _<_}
 use mathlib.Core.Bool.{Bool, true, false, _&&_}
-use mathlib.Core.List.{List, [], _∷_, _++_, map, List·Memᴰ, List·Memᴰ·head, List·Memᴰ·tail}
+use mathlib.Core.List.{List, [], _∷_, _++_, map, List·Memᴰ}
 use mathlib.Core.Path.{_≡_, refl, _∙_, ap}
 use native.Mathlib.Nat.{le-refl}
 use lib.Dec.{T, ltb}
 use lib.ListN.{getD, take, List·getD-map}
 use lib.Seq.{take-take, getD-take}
-use Rattle.mask.specs.Every.{everyBelow, every}
-use Rattle.mask.specs.Laws.Tests.{below-suc, every-at, parts, and-left}
+use Rattle.mask.specs.Every.{every}
+use Rattle.mask.specs.Laws.Tests.{everyBelow-same, every-same, every-map, every-at, parts, and-left}
 use Rattle.policy.specs.declared.Policy.{Policy}
 use Rattle.policy.specs.declared.Action.{Action}
 use Rattle.policy.specs.declared.Rule.{Rule}
@@ -19,22 +19,7 @@ use Rattle.policy.specs.Questions.{Question, firstNo, questions, listInR
 use Rattle.policy.specs.Questions.{heavier, outweighs, inRange, listsRise, levelsFit, weightsFit}
 use Rattle.policy.specs.Laws.{ListFits, RuleFits, rule-fits}
 
--- tests that agree on the entries of a list, or below n
-every-same : {A : Type 0} (f g : A → Bool) (l : List A) → ((x : A) → List·Memᴰ x l → f x ≡ g x) → every f l ≡ every g l
-unfolding every
-every-same f g [] e = refl
-every-same f g (x ∷ l) e = rw (e x (List·Memᴰ·head refl), every-same f g l (λ y m. e y (List·Memᴰ·tail m)))
-
-everyBelow-same : (n : ℕ) (f g : ℕ → Bool) → ((i : ℕ) → i < n → f i ≡ g i) → everyBelow n f ≡ everyBelow n g
-unfolding everyBelow
-everyBelow-same zero f g e = refl
-everyBelow-same (suc n) f g e = rw (everyBelow-same n f g (λ i h. e i (below-suc h)), e n (le-refl (suc n)))
-
-every-map : {A B : Type 0} (f : B → Bool) (h : A → B) (l : List A) → every f (map h l) ≡ every (λ x. f (h x)) l
-unfolding every
-every-map f h [] = refl
-every-map f h (x ∷ l) = rw (every-map f h l)
-
+-- the front of a mapped list
 take-map : {A B : Type 0} (h : A → B) (n : ℕ) (l : List A) → take n (map h l) ≡ map h (take n l)
 take-map h zero l = refl
 take-map h (suc n) [] = refl
