@@ -1,6 +1,6 @@
 -- Which actions the world of a set holds.
 use Prim.Native.Nat.{ℕ, zero, suc, _<_}
-use mathlib.Core.Bool.{Bool, true, false, cond, _||_}
+use mathlib.Core.Bool.{Bool, true, false, cond}
 use mathlib.Core.Logic.{_⊎_, inl, inr, ⊎-elim, _↔_}
 use mathlib.Core.Path.{_≡_}
 use native.Mathlib.Nat.{le-refl, not-suc-le-zero}

@@ -23,13 +23,13 @@ spelt-append v [] d = refl
 spelt-append v (b ∷ c) d = spelt-append (v * 10 + (b - 48)) c d
 
 -- a number below 10 has one digit
-one-digit : (fuel n : ℕ) → n < 10 → decimalBy fuel n ≡ (48 + n) ∷ []
+pub one-digit : (fuel n : ℕ) → n < 10 → decimalBy fuel n ≡ (48 + n) ∷ []
 unfolding decimalBy
 one-digit zero n h = refl
 one-digit (suc fuel) n h = rw (lt-ltb n 10 h, decimalBy)
 
 -- any other has those of its tenth and one more
-more-digits : (fuel n : ℕ) → 10 ≤ n → decimalBy (suc fuel) n ≡ decimalBy fuel (n / 10) ++ ((48 + n % 10) ∷ [])
+pub more-digits : (fuel n : ℕ) → 10 ≤ n → decimalBy (suc fuel) n ≡ decimalBy fuel (n / 10) ++ ((48 + n % 10) ∷ [])
 unfolding decimalBy
 more-digits fuel n h = rw (le-ltb n 10 h, decimalBy)
 
