@@ -62,7 +62,7 @@ lightest-same f g c d e h (suc n) = λ i. elim (e n i) [
 
 module _ (p : Policy) where
   -- the cost
-  weighed-cut : (s n : ℕ) → n ≤ p .actions → weighed (cut p) s n ≡ weighed p s n
+  weighed-cut : (s n : ℕ) → n ≤ p .actions → weighed (cut p .action) s n ≡ weighed (p .action) s n
   unfolding weighed
   weighed-cut s zero h = refl
   weighed-cut s (suc n) h = rw (weighed-cut s n (omega arith), weight-cut p n h)

@@ -13,7 +13,7 @@ use Rattle.policy.specs.Record.{ruleOf, headOf, levelOf, cutRule, cut}
 use Rattle.policy.specs.Questions.{inRange}
 use Rattle.policy.specs.Laws.{in-range}
 use Rattle.policy.specs.Laws.Cut.{listed-cut, level-cut, also-cut, rule-cut, head-cut}
-use Rattle.model.specs.World.{alsoes, worldOf}
+use Rattle.model.specs.World.{alsoes, worldIn, worldOf}
 use Rattle.model.specs.Fire.{Marks, State, holds, fits, fire, fires, tried, pass, passes, upTo, firedOf}
 
 -- a choice by a test, where the tests and what they choose are the same
@@ -28,13 +28,13 @@ fits-cut held w r = rw (listed-cut (r .ifs), listed-cut (r .unless))
 
 -- the worlds
 module _ (p : Policy) where
-  alsoes-cut : (m n : ℕ) → n ≤ p .actions → alsoes (cut p) m n ≡ alsoes p m n
+  alsoes-cut : (m n : ℕ) → n ≤ p .actions → alsoes (cut p .action) m n ≡ alsoes (p .action) m n
   unfolding alsoes
   alsoes-cut m zero h = refl
   alsoes-cut m (suc n) h = rw (alsoes-cut m n (omega arith), also-cut p n h)
 
   pub world-cut : (done s : ℕ) → worldOf (cut p) done s ≡ worldOf p done s
-  unfolding worldOf
+  unfolding worldOf worldIn
   world-cut done s = ap (bitOr (bitOr done s)) (alsoes-cut (bitOr done s) (p .actions) (le-refl (p .actions)))
 
 -- the rules fired, where question 3 is answered yes: the head of each rule then has its level below the count
