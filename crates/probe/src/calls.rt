@@ -1,0 +1,127 @@
+// What each call of the engine returns, written as text with no line end.
+ghost use Prim.Native.Nat.{_≤_};
+ghost use mathlib.Core.Path.{_≡_};
+ghost use lib.ListN.{length};
+use crate::out::entry;
+use crate::out::keyed;
+use crate::out::text;
+use engine::Answer;
+use engine::Listing;
+use engine::Verdict;
+use policy::Policy;
+use policy::Query;
+
+// Writes what judge returns.
+pub(crate) fn judge(policy: Policy, query: Query, offered: u16) {
+    let verdict = engine::judge(policy, query, offered);
+    match verdict {
+        Verdict::Refused(n) => keyed(b"refused=", n as u32),
+        Verdict::Judged(judgement) => {
+            if judgement.enough {
+                text(b"enough=1");
+            } else {
+                text(b"enough=0");
+            }
+            keyed(b" cost=", judgement.cost);
+        }
+    }
+}
+
+// The number of a rule in 16 bits.
+fn wide(rule: u8) -> u16 {
+    rule as u16
+}
+
+// Writes the entries below the count.
+fn fired(rules: [u8; 128], count: usize) {
+    for i in 0..128 {
+        if i < count {
+            entry(i, wide(rules[i]));
+        }
+    }
+}
+
+// The number of entries at or past the count that are not 0.
+fn tail(rules: [u8; 128], count: usize) -> u32 {
+    let mut n = 0;
+    for i in count..128 {
+        if rules[i] != 0 {
+            n += 1;
+        }
+    }
+    n
+}
+
+// Writes what fire returns.
+pub(crate) fn fire(policy: Policy, query: Query, offered: u16) {
+    let firing = engine::fire(policy, query, offered);
+    let rules = firing.rules;
+    let count = firing.count as usize;
+    keyed(b"refusal=", firing.refusal as u32);
+    keyed(b" count=", firing.count as u32);
+    text(b" rules=");
+    fired(rules, count);
+    keyed(b" tail=", tail(rules, count));
+}
+
+// Writes what choose returns, and hands back the number of slim sets in it.
+pub(crate) fn choose(policy: Policy, query: Query) -> u32 {
+    let answer = engine::choose(policy, query);
+    match answer {
+        Answer::Refused(n) => {
+            keyed(b"refused=", n as u32);
+            0
+        }
+        Answer::None => {
+            text(b"none");
+            0
+        }
+        Answer::Chosen(choice) => {
+            keyed(b"mask=", choice.mask as u32);
+            keyed(b" cost=", choice.cost);
+            keyed(b" slim=", choice.slim);
+            choice.slim
+        }
+    }
+}
+
+// Places of which place i holds 50000 + i.
+fn filled() -> [u16; 300]
+    ensures { λ r. ⌜ 300 ≡ length r ⌝ }
+{
+    let mut places = [0u16; 300];
+    let mut n = 50000;
+    for i in 0..300 {
+        places[i] = n;
+        n += 1;
+    }
+    places
+}
+
+// Writes the entries of a list.
+fn entries(places: &[u16]) {
+    let mut i = 0;
+    while i < places.len() {
+        entry(i, places[i]);
+        i += 1;
+    }
+}
+
+// Writes what list returns, and the places lent to it.
+fn listed(policy: Policy, query: Query, places: &mut [u16]) {
+    let listing = engine::list(policy, query, places);
+    match listing {
+        Listing::Refused(n) => keyed(b"refused=", n as u32),
+        Listing::Listed(n) => keyed(b"count=", n),
+    }
+    text(b" places=");
+    entries(places);
+}
+
+// Writes what list returns for a list of so many places, and these places.
+pub(crate) fn list(policy: Policy, query: Query, length: usize)
+    requires { ⌜ length ≤ 300 ⌝ }
+{
+    let mut places = filled();
+    listed(policy, query, &mut places[..length]);
+}

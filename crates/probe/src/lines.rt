@@ -1,0 +1,91 @@
+// The lines of one query.
+ghost use Prim.Native.Nat.{_≤_};
+use crate::calls;
+use crate::out::keyed;
+use crate::out::text;
+use policy::Policy;
+use policy::Query;
+use policy::sizes::held;
+
+// The first mask that is no set of so many actions, or with 16 the last mask.
+fn past(actions: u8) -> u16 {
+    if actions < 16 { 1u16 << actions } else { 65535 }
+}
+
+// Writes the lines of an offered set.
+fn offer(policy: Policy, query: Query, offered: u16) {
+    keyed(b"judge ", offered as u32);
+    text(b" ");
+    calls::judge(policy, query, offered);
+    keyed(b"\nfire ", offered as u32);
+    text(b" ");
+    calls::fire(policy, query, offered);
+    text(b"\n");
+}
+
+// Writes the lines of each set of the actions, and of two masks that are none.
+fn offers(policy: Policy, query: Query) {
+    let last = past(policy.actions);
+    for s in 0..=last {
+        offer(policy, query, s);
+    }
+    offer(policy, query, 65535);
+}
+
+// Writes the line of a list of so many places.
+fn list(policy: Policy, query: Query, length: usize)
+    requires { ⌜ length ≤ 300 ⌝ }
+{
+    keyed(b"list ", length as u32);
+    text(b" ");
+    calls::list(policy, query, length);
+    text(b"\n");
+}
+
+// Writes the lines of the lists with at most one place more than there are slim sets.
+fn lists(policy: Policy, query: Query, slim: u32) {
+    let end = held(slim as usize + 2, 301);
+    let mut n = 0;
+    while n < end {
+        list(policy, query, n);
+        n += 1;
+    }
+}
+
+// Writes the lines of a query out of range, under the name of what is over.
+fn over(policy: Policy, query: Query, name: &[u8]) {
+    text(name);
+    text(b" over judge ");
+    calls::judge(policy, query, 0);
+    text(b"\n");
+    text(name);
+    text(b" over fire ");
+    calls::fire(policy, query, 0);
+    text(b"\n");
+    text(name);
+    text(b" over choose ");
+    calls::choose(policy, query);
+    text(b"\n");
+    text(name);
+    text(b" over list ");
+    calls::list(policy, query, 4);
+    text(b"\n");
+}
+
+// Writes the lines of a query.
+pub(crate) fn of(policy: Policy, query: Query) {
+    keyed(b"query want=", query.want as u32);
+    keyed(b" done=", query.done as u32);
+    text(b"\n");
+    offers(policy, query);
+    text(b"choose ");
+    let slim = calls::choose(policy, query);
+    text(b"\n");
+    lists(policy, query, slim);
+    let mut far = query;
+    far.want = policy.decisions;
+    over(policy, far, b"want");
+    let mut far = query;
+    far.done = past(policy.actions);
+    over(policy, far, b"done");
+}

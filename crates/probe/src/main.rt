@@ -1,0 +1,47 @@
+// The program `probe`: reads a file from standard input, and writes what the engine's calls return for its policy and queries.
+use out::keyed;
+use out::text;
+use policy::Policy;
+use policy::sizes::held;
+use reader::Queries;
+
+mod calls;
+mod lines;
+mod out;
+mod spoilt;
+
+// Writes the lines of a file.
+fn answer(policy: Policy, queries: Queries) {
+    keyed(b"check=", engine::check(policy) as u32);
+    text(b"\n");
+    let query = queries.at;
+    let count = held(queries.count as usize, 64);
+    let mut i = 0;
+    while i < count {
+        let one = query[i];
+        lines::of(policy, one);
+        i += 1;
+    }
+    if count != 0 {
+        let first = query[0];
+        spoilt::lines(policy, first);
+    }
+}
+
+fn main() {
+    let mut input = [0u8; 32769];
+    let n = io::read_full(0, &mut input);
+    let reading = reader::read(&input[..n]);
+    if reading.refusal != 0 {
+        keyed(b"refused=", reading.refusal as u32);
+        text(b"\n");
+        return;
+    }
+    let policy = reading.policy;
+    if policy.actions > 8 {
+        text(b"too many actions\n");
+        return;
+    }
+    let queries = reading.queries;
+    answer(policy, queries);
+}

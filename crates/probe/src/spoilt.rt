@@ -1,0 +1,97 @@
+// The lines of spoilt policies: the policy with one thing changed, and a query put to it.
+use crate::calls;
+use crate::out::keyed;
+use crate::out::text;
+use policy::Decisions;
+use policy::Policy;
+use policy::Query;
+use policy::Rule;
+
+// Writes the line of a spoilt policy.
+fn line(name: &[u8], policy: Policy, query: Query) {
+    text(b"spoilt ");
+    text(name);
+    keyed(b" check=", engine::check(policy) as u32);
+    text(b" judge ");
+    calls::judge(policy, query, 0);
+    text(b" choose ");
+    calls::choose(policy, query);
+    text(b"\n");
+}
+
+// Writes the lines with a count out of range, and a level.
+fn numbers(policy: Policy, query: Query) {
+    let mut p = policy;
+    p.decisions = 129;
+    line(b"decisions", p, query);
+    let mut p = policy;
+    p.actions = 17;
+    line(b"actions", p, query);
+    let mut p = policy;
+    p.rules = 257;
+    line(b"rules", p, query);
+    let mut p = policy;
+    p.level[0] = 16;
+    line(b"level", p, query);
+}
+
+// Writes the lines with action 0 changed.
+fn actions(policy: Policy, query: Query) {
+    let mut p = policy;
+    let mut action = policy.action[0];
+    action.weight = 0;
+    p.action[0] = action;
+    line(b"weight", p, query);
+    let mut p = policy;
+    let mut action = policy.action[0];
+    action.also = 65535;
+    p.action[0] = action;
+    line(b"also", p, query);
+}
+
+// Writes the line with another rule 0.
+fn rule(name: &[u8], policy: Policy, query: Query, rule: Rule) {
+    let mut p = policy;
+    p.rule[0] = rule;
+    line(name, p, query);
+}
+
+// Writes the lines with rule 0 changed.
+fn rules(policy: Policy, query: Query) {
+    let first = policy.rule[0];
+    let mut one = first;
+    one.head = policy.decisions;
+    rule(b"head", policy, query, one);
+    let mut one = first;
+    let mut ifs = first.ifs;
+    ifs.count = 9;
+    one.ifs = ifs;
+    rule(b"list", policy, query, one);
+    if policy.decisions >= 2 {
+        let falling = Decisions {
+            count: 2,
+            at: [1, 0, 0, 0, 0, 0, 0, 0],
+        };
+        let mut one = first;
+        one.ifs = falling;
+        rule(b"falling", policy, query, one);
+    }
+    let own = Decisions {
+        count: 1,
+        at: [first.head, 0, 0, 0, 0, 0, 0, 0],
+    };
+    let mut one = first;
+    one.unless = own;
+    rule(b"own", policy, query, one);
+}
+
+// Writes the lines of each spoilt policy.
+pub(crate) fn lines(policy: Policy, query: Query) {
+    numbers(policy, query);
+    if policy.actions >= 1 {
+        actions(policy, query);
+    }
+    if policy.rules >= 1 {
+        rules(policy, query);
+    }
+}
