@@ -1,0 +1,109 @@
+//! Hard files, each timed in one run through `clear` and through the engine here, as a Markdown table.
+
+use crate::compare::output;
+use crate::generate::{text, to_lines};
+use crate::policy::{Action, Policy, Query, Rule};
+use crate::random::{random, Case, Size};
+use crate::rng::Rng;
+use crate::shapes::at_least;
+use std::io;
+use std::time::{Duration, Instant};
+
+/// A run that took longer than this is not repeated.
+const LONG: Duration = Duration::from_secs(4);
+const REPEATS: usize = 5;
+
+pub fn bench(clear: &str) -> io::Result<()> {
+    let own = std::env::current_exe()?;
+    let own = own.to_str().expect("a path that is text");
+    println!("| file | clear, ms | outside engine, ms | ratio |");
+    println!("|---|--:|--:|--:|");
+    for (name, case) in cases() {
+        let file = text(&to_lines(&case));
+        let (time, printed) = best_time(clear, &[], &file)?;
+        let (own_time, due) = best_time(own, &["run"], &file)?;
+        let note = if printed == due { "" } else { " (and they differ)" };
+        let [time, own_time] = [time, own_time].map(|time| 1000.0 * time.as_secs_f64());
+        println!("| {name}{note} | {time:.1} | {own_time:.1} | {:.2} |", time / own_time);
+    }
+    println!();
+    println!("Each time is that of one run of the program, process start included, the best of up to {REPEATS}.");
+    println!("A ratio below 1 means that clear is the quicker one.");
+    println!(
+        "The outside engine keeps the model of each world for all queries of a file; clear works each query afresh."
+    );
+    Ok(())
+}
+
+/// The least time that a program takes for a file, and what it prints.
+fn best_time(program: &str, arguments: &[&str], file: &[u8]) -> io::Result<(Duration, Vec<u8>)> {
+    let mut best = Duration::MAX;
+    let mut printed = Vec::new();
+    for _ in 0..REPEATS {
+        let start = Instant::now();
+        printed = output(program, arguments, file)?;
+        best = best.min(start.elapsed());
+        if best > LONG {
+            break;
+        }
+    }
+    Ok((best, printed))
+}
+
+fn cases() -> Vec<(&'static str, Case)> {
+    let mut rng = Rng::new(0, 0);
+    let size = Size { decisions: 128, actions: 16, rules: 256, queries: 64, top_level: 15 };
+    let mut many = random(&mut rng, &size);
+    many.policy.actions = actions(16);
+    for query in &mut many.queries {
+        query.done = 0;
+    }
+    let mut one = many.clone();
+    one.queries.truncate(1);
+    vec![
+        ("4 decisions, 4 actions, 4 rules, 1 query", little()),
+        ("at least 8 of 16: 12,870 slim sets", at_least(8, 16)),
+        ("chain of 128 against file order, all 16 actions needed at its end", chain()),
+        ("256 rules, 16 levels with unless, 16 actions, 1 query", one),
+        ("the same with 64 queries", many),
+        ("256 rules, 16 actions, nothing clears", nothing(&mut rng)),
+    ]
+}
+
+fn actions(count: usize) -> Vec<Action> {
+    vec![Action { kind: 'p', weight: 1, also: 0 }; count]
+}
+
+/// A small file: what a run costs at least.
+fn little() -> Case {
+    let mut policy = Policy { levels: vec![1, 0, 0, 0], actions: actions(4), rules: Vec::new() };
+    for (head, needs) in [(1, 1), (1, 4), (2, 2)] {
+        policy.rules.push(Rule { head, needs, ..Rule::default() });
+    }
+    policy.rules.push(Rule { head: 0, needs: 0, ifs: vec![1], unless: vec![2] });
+    Case { policy, queries: vec![Query { want: 0, done: 0 }] }
+}
+
+/// 0 if 1, 1 if 2 and so on, so that each pass adds one decision, in the world of every set.
+fn chain() -> Case {
+    let mut policy = Policy { levels: vec![0; 128], actions: actions(16), rules: Vec::new() };
+    for head in 0..127 {
+        let needs = if head == 0 { 65_535 } else { 0 };
+        policy.rules.push(Rule { head, needs, ifs: vec![head + 1], unless: Vec::new() });
+    }
+    policy.rules.push(Rule { head: 127, ..Rule::default() });
+    Case { policy, queries: vec![Query { want: 0, done: 0 }] }
+}
+
+/// Random rules, and a decision on the highest level that only a circle gives.
+fn nothing(rng: &mut Rng) -> Case {
+    let size = Size { decisions: 128, actions: 16, rules: 256, queries: 0, top_level: 14 };
+    let mut case = random(rng, &size);
+    case.policy.actions = actions(16);
+    case.policy.levels[..2].fill(15);
+    case.policy.rules.retain(|rule| rule.head > 1 && !rule.ifs.iter().chain(&rule.unless).any(|&d| d < 2));
+    case.policy.rules.push(Rule { head: 0, ifs: vec![1], ..Rule::default() });
+    case.policy.rules.push(Rule { head: 1, ifs: vec![0], ..Rule::default() });
+    case.queries.push(Query { want: 0, done: 0 });
+    case
+}

@@ -1,0 +1,138 @@
+//! The files of a seed: valid ones, ones at the edges of each question, damaged ones, random bytes, and ones about
+//! as long as a file may be. File number n of a seed is always the same.
+
+use crate::edges::edge;
+use crate::random::{small, Case};
+use crate::rng::Rng;
+use crate::run::commas;
+use crate::shapes::valid;
+
+/// Of twenty files in a row nine are valid, seven at an edge, three damaged and one of odd bytes.
+pub fn file(seed: u64, number: u64) -> Vec<u8> {
+    let mut rng = Rng::new(seed, number);
+    let (round, place) = (number / 20, number % 20);
+    match place {
+        0..=8 => text(&to_lines(&valid(&mut rng, 9 * round + place))),
+        9..=15 => edge(&mut rng, 7 * round + place - 9),
+        16 => damaged_bytes(&mut rng),
+        17 => damaged_lines(&mut rng),
+        18 => nudged(&mut rng),
+        _ if round % 2 == 0 => odd_bytes(&mut rng),
+        _ => long(&mut rng),
+    }
+}
+
+pub fn to_lines(case: &Case) -> Vec<String> {
+    let policy = &case.policy;
+    let mut lines = vec![format!("decisions={}", policy.levels.len()), format!("actions={}", policy.actions.len())];
+    lines.extend(policy.levels.iter().map(|level| format!("level={level}")));
+    for action in &policy.actions {
+        lines.push(format!("kind={}", action.kind));
+        lines.push(format!("weight={}", action.weight));
+        lines.push(format!("also={}", action.also));
+    }
+    lines.push(format!("rules={}", policy.rules.len()));
+    for rule in &policy.rules {
+        lines.push(format!("head={}", rule.head));
+        lines.push(format!("needs={}", rule.needs));
+        lines.push(format!("if={}", commas(&rule.ifs)));
+        lines.push(format!("unless={}", commas(&rule.unless)));
+    }
+    lines.push(format!("queries={}", case.queries.len()));
+    for query in &case.queries {
+        lines.push(format!("want={}", query.want));
+        lines.push(format!("done={}", query.done));
+    }
+    lines
+}
+
+/// The lines, each with its LF.
+pub fn text(lines: &[String]) -> Vec<u8> {
+    lines.iter().flat_map(|line| [line.as_bytes(), b"\n"].concat()).collect()
+}
+
+/// One to three bytes changed to another of the file, changed in one bit, dropped, doubled or swapped, or the end
+/// cut.
+fn damaged_bytes(rng: &mut Rng) -> Vec<u8> {
+    let mut file = text(&to_lines(&small(rng)));
+    for _ in 0..rng.within(1, 3) {
+        let (place, other) = (rng.below(file.len()), rng.below(file.len()));
+        match rng.below(16) {
+            0..=5 => file[place] = file[other],
+            6..=8 => file[place] ^= 1 << rng.below(8),
+            9..=11 => drop(file.remove(place)),
+            12 | 13 => file.insert(place, file[place]),
+            14 => file.swap(place, other),
+            _ => file.truncate(place.max(1)),
+        }
+    }
+    file
+}
+
+/// One or two lines dropped, doubled, swapped, cut, or replaced by another.
+fn damaged_lines(rng: &mut Rng) -> Vec<u8> {
+    let mut lines = to_lines(&small(rng));
+    for _ in 0..rng.within(1, 2) {
+        let (place, other) = (rng.below(lines.len()), rng.below(lines.len()));
+        match rng.below(5) {
+            0 => drop(lines.remove(place)),
+            1 => lines.insert(place, lines[place].clone()),
+            2 => lines.swap(place, other),
+            3 => {
+                let length = rng.below(lines[place].len() + 1);
+                lines[place].truncate(length);
+            }
+            _ => lines[place] = lines[other].clone(),
+        }
+    }
+    text(&lines)
+}
+
+/// Some numbers one up or one down, which leaves most files well formed.
+fn nudged(rng: &mut Rng) -> Vec<u8> {
+    let mut lines = to_lines(&small(rng));
+    for _ in 0..rng.within(1, 3) {
+        let place = rng.below(lines.len());
+        let (key, content) = lines[place].split_once('=').expect("a line has an = sign");
+        if let Ok(number) = content.parse::<u32>() {
+            let number = if rng.once_in(2) { number + 1 } else { number.saturating_sub(1) };
+            lines[place] = format!("{key}={number}");
+        }
+    }
+    text(&lines)
+}
+
+/// Any bytes, or bytes that occur in files, alone or behind the start of a file.
+fn odd_bytes(rng: &mut Rng) -> Vec<u8> {
+    let mut file = text(&to_lines(&small(rng)));
+    let known = file.clone();
+    file.truncate(if rng.once_in(2) { 0 } else { rng.below(known.len()) });
+    let any = rng.once_in(2);
+    for _ in 0..rng.below(200) {
+        file.push(if any { rng.below(256) as u8 } else { rng.pick(&known) });
+    }
+    file
+}
+
+/// 32,767 to 32,769 bytes. An accepted file is shorter than that, so its end is made longer, or a list in it, or a
+/// number; or an earlier line is refused.
+fn long(rng: &mut Rng) -> Vec<u8> {
+    let length = rng.within(32_767, 32_769);
+    let mut lines = to_lines(&small(rng));
+    let way = rng.below(6);
+    if way < 2 {
+        lines[way] = ["decisions=129", "actions=17"][way].to_string();
+    }
+    let mut file = text(&lines);
+    let missing = length - file.len();
+    let filling: Vec<u8> = match way {
+        2 => b"0,".iter().copied().cycle().take(missing).collect(),
+        3 => vec![b'1'; missing],
+        4 => (0..missing).map(|_| rng.below(256) as u8).collect(),
+        _ => file.iter().copied().cycle().take(missing).collect(),
+    };
+    let list = file.windows(4).position(|bytes| bytes == b"\nif=").map(|start| start + 4);
+    let place = if way == 2 || way == 3 { list.unwrap_or(file.len()) } else { file.len() };
+    file.splice(place..place, filling);
+    file
+}

@@ -1,0 +1,135 @@
+//! What the program `probe` prints for a file: the answers of each call to every set offered, to lists of each
+//! length, to queries out of range and to spoilt policies.
+
+use crate::engine::{check, Engine};
+use crate::policy::{Action, Policy, Query, Refusal, Rule};
+use crate::reader;
+use crate::run::commas;
+
+const MOST_ACTIONS: usize = 8;
+
+pub fn probe(input: &[u8]) -> String {
+    let (policy, queries) = match reader::read(input) {
+        Err(number) => return format!("refused={number}\n"),
+        Ok(read) => read,
+    };
+    if policy.actions.len() > MOST_ACTIONS {
+        return "too many actions\n".to_string();
+    }
+    let mut text = format!("check={}\n", number(check(&policy)));
+    let mut engine = Engine::new(&policy);
+    for query in &queries {
+        text += &format!("query want={} done={}\n", query.want, query.done);
+        text += &offers(&mut engine, query, 1 << policy.actions.len());
+        text += &lists(&mut engine, query);
+        let over = Query { want: policy.levels.len() as u32, done: query.done };
+        text += &out_of_range(&mut engine, "want", &over);
+        let over = Query { want: query.want, done: 1 << policy.actions.len() };
+        text += &out_of_range(&mut engine, "done", &over);
+    }
+    if let Some(query) = queries.first() {
+        for (name, spoilt) in spoilt(&policy) {
+            let mut engine = Engine::new(&spoilt);
+            let (judge, choose) = (judge(&mut engine, query, 0), choose(&mut engine, query));
+            let check = number(check(&spoilt));
+            text += &format!("spoilt {name} check={check} judge {judge} choose {choose}\n");
+        }
+    }
+    text
+}
+
+fn number(answer: Result<(), Refusal>) -> Refusal {
+    answer.err().unwrap_or(0)
+}
+
+/// Each mask up to the first that is out of range, and 65535.
+fn offers(engine: &mut Engine, query: &Query, over: u32) -> String {
+    let lines = (0..=over).chain([65_535]).map(|set| {
+        let (judge, fire) = (judge(engine, query, set), fire(engine, query, set));
+        format!("judge {set} {judge}\nfire {set} {fire}\n")
+    });
+    lines.collect()
+}
+
+/// Choose, and List with each length up to one more than the slim sets take.
+fn lists(engine: &mut Engine, query: &Query) -> String {
+    let count = match engine.choose(query) {
+        Ok(Some(choice)) => choice.slim,
+        _ => 0,
+    };
+    let mut text = format!("choose {}\n", choose(engine, query));
+    for length in 0..=count + 1 {
+        text += &format!("list {length} {}\n", list(engine, query, length));
+    }
+    text
+}
+
+fn out_of_range(engine: &mut Engine, name: &str, query: &Query) -> String {
+    let (judge, fire) = (judge(engine, query, 0), fire(engine, query, 0));
+    let (choose, list) = (choose(engine, query), list(engine, query, 4));
+    format!(
+        "{name} over judge {judge}\n{name} over fire {fire}\n\
+         {name} over choose {choose}\n{name} over list {list}\n"
+    )
+}
+
+fn judge(engine: &mut Engine, query: &Query, set: u32) -> String {
+    match engine.judge(query, set) {
+        Err(number) => format!("refused={number}"),
+        Ok((enough, cost)) => format!("enough={} cost={cost}", u32::from(enough)),
+    }
+}
+
+/// No entry past the count is ever other than 0, so the tail is always 0.
+fn fire(engine: &mut Engine, query: &Query, set: u32) -> String {
+    let (refusal, fired) = match engine.fire(query, set) {
+        Err(number) => (number, Vec::new()),
+        Ok(fired) => (0, fired),
+    };
+    format!("refusal={refusal} count={} rules={} tail=0", fired.len(), commas(&fired))
+}
+
+fn choose(engine: &mut Engine, query: &Query) -> String {
+    match engine.choose(query) {
+        Err(number) => format!("refused={number}"),
+        Ok(None) => "none".to_string(),
+        Ok(Some(choice)) => {
+            format!("mask={} cost={} slim={}", choice.mask, choice.cost, choice.slim)
+        }
+    }
+}
+
+fn list(engine: &mut Engine, query: &Query, length: usize) -> String {
+    let mut lent: Vec<u16> = (50_000..).take(length).collect();
+    let answer = match engine.list(query, &mut lent) {
+        Err(number) => format!("refused={number}"),
+        Ok(count) => format!("count={count}"),
+    };
+    format!("{answer} places={}", commas(&lent))
+}
+
+/// The policy with one entry spoilt at a time, and the name of what was spoilt. A count is spoilt by more entries.
+fn spoilt(policy: &Policy) -> Vec<(&'static str, Policy)> {
+    let mut all = Vec::new();
+    let mut spoil = |name, place_is_there: bool, change: &dyn Fn(&mut Policy)| {
+        if place_is_there {
+            let mut spoilt = policy.clone();
+            change(&mut spoilt);
+            all.push((name, spoilt));
+        }
+    };
+    let none = Action { kind: 'p', weight: 0, also: 0 };
+    let has_action = !policy.actions.is_empty();
+    let has_rule = !policy.rules.is_empty();
+    spoil("decisions", true, &|p| p.levels.resize(129, 0));
+    spoil("actions", true, &|p| p.actions.resize(17, none.clone()));
+    spoil("rules", true, &|p| p.rules.resize(257, Rule::default()));
+    spoil("level", true, &|p| p.levels[0] = 16);
+    spoil("weight", has_action, &|p| p.actions[0].weight = 0);
+    spoil("also", has_action, &|p| p.actions[0].also = 65_535);
+    spoil("head", has_rule, &|p| p.rules[0].head = p.levels.len() as u32);
+    spoil("list", has_rule, &|p| p.rules[0].ifs.resize(9, 0));
+    spoil("falling", has_rule && policy.levels.len() >= 2, &|p| p.rules[0].ifs = vec![1, 0]);
+    spoil("own", has_rule, &|p| p.rules[0].unless = vec![p.rules[0].head]);
+    all
+}
