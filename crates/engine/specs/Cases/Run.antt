@@ -27,7 +27,8 @@ pub record Run : Type 0 where
 
 pub run : Run
 unfolding sample every everyBelow someBelow firstNo questions queryInRange inRange countsInRange levelInRange actionInRange ruleInRange
-    listInRange listsRise ruleRises rises levelsFit ruleLevelsFit levelsBelow weightsFit outweighs heavier worldOf worldIn alsoes firedOf fits fires
+    listInRange listsRise ruleRises rises levelsFit ruleLevelsFit levelsBelow weightsFit outweighs heavier
+    worldOf worldIn alsoes firedOf fits fires
     tried pass passes upTo costOf weighed among takenWithin minimal lightest lighter chooseOf answer refusedOr best clears
     enough firedFor slimSets slim
 run = record {
@@ -62,7 +63,8 @@ pub record Tested : Type 0 where
 
 pub tested : Tested
 unfolding sample every everyBelow someBelow firstNo questions queryInRange inRange countsInRange levelInRange actionInRange ruleInRange
-    listInRange listsRise ruleRises rises levelsFit ruleLevelsFit levelsBelow weightsFit outweighs heavier Accepted worldOf worldIn alsoes firedOf
+    listInRange listsRise ruleRises rises levelsFit ruleLevelsFit levelsBelow weightsFit outweighs heavier Accepted
+    worldOf worldIn alsoes firedOf
     fits fires tried pass passes upTo costOf weighed takenWithin minimal lightest lighter best clears enough firedFor slim
 tested = record {
   accepted = refl;
