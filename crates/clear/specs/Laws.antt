@@ -1,3 +1,4 @@
--- What the private functions say of a query's result and of the text that they put into a buffer.
+-- That the list printed is that of the slim sets, and what the private functions say of a result and of its text.
 pub mod Put
 pub mod Worked
+pub mod Listed
