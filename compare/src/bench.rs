@@ -60,12 +60,15 @@ fn cases() -> Vec<(&'static str, Case)> {
     }
     let mut one = many.clone();
     one.queries.truncate(1);
+    let mut unasked = many.clone();
+    unasked.queries.clear();
     vec![
         ("4 decisions, 4 actions, 4 rules, 1 query", little()),
         ("at least 8 of 16: 12,870 slim sets", at_least(8, 16)),
         ("chain of 128 against file order, all 16 actions needed at its end", chain()),
         ("256 rules, 16 levels with unless, 16 actions, 1 query", one),
         ("the same with 64 queries", many),
+        ("the same with no query: reading alone", unasked),
         ("256 rules, 16 actions, nothing clears", nothing(&mut rng)),
     ]
 }
