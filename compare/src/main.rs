@@ -1,4 +1,4 @@
-//! An engine outside the proofs, written from document 01 alone and run against the proved one.
+//! An engine outside the proofs, written from document 01 and run against the proved one.
 
 mod bench;
 mod compare;
