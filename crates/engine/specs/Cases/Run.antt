@@ -4,9 +4,9 @@ use mathlib.Core.List.{[], _∷_}
 use mathlib.Core.Option.{none, some}
 use mathlib.Core.Path.{_≡_, refl}
 use Rattle.mask.specs.Every.{every, everyBelow, someBelow}
-use Rattle.policy.specs.Questions.{firstNo, questions, queryInRange, inRange, countsInRange, levelInRange, actionInRange}
-use Rattle.policy.specs.Questions.{ruleInRange, listInRange, listsRise, ruleRises, rises, levelsFit, ruleLevelsFit, levelsBelow}
-use Rattle.policy.specs.Questions.{weightsFit, outweighs, heavier, Accepted}
+use Rattle.policy.specs.Questions.{firstNo, questions, queryInRange, inRange, othersInRange, countsInRange, levelInRange}
+use Rattle.policy.specs.Questions.{actionInRange, ruleInRange, listInRange, listsRise, ruleRises, rises, levelsFit, ruleLevelsFit}
+use Rattle.policy.specs.Questions.{levelsBelow, weightsFit, outweighs, heavier, Accepted}
 use Rattle.policy.specs.Cases.{sample, ask}
 use Rattle.model.specs.World.{worldOf, worldIn, alsoes}
 use Rattle.model.specs.Fire.{firedOf, fits, fires, tried, pass, passes, upTo}
@@ -26,8 +26,8 @@ pub record Run : Type 0 where
   pub third-fired : firedFor sample (ask 0 8) 0 ≡ 0 ∷ 3 ∷ []
 
 pub run : Run
-unfolding sample every everyBelow someBelow firstNo questions queryInRange inRange countsInRange levelInRange actionInRange ruleInRange
-    listInRange listsRise ruleRises rises levelsFit ruleLevelsFit levelsBelow weightsFit outweighs heavier
+unfolding sample every everyBelow someBelow firstNo questions queryInRange inRange othersInRange countsInRange levelInRange actionInRange
+    ruleInRange listInRange listsRise ruleRises rises levelsFit ruleLevelsFit levelsBelow weightsFit outweighs heavier
     worldOf worldIn alsoes firedOf fits fires
     tried pass passes upTo costOf weighed among takenWithin minimal lightest lighter chooseOf answer refusedOr best clears
     enough firedFor slimSets slim
@@ -62,8 +62,8 @@ pub record Tested : Type 0 where
   pub k-cost : costOf sample 2 ≡ 2
 
 pub tested : Tested
-unfolding sample every everyBelow someBelow firstNo questions queryInRange inRange countsInRange levelInRange actionInRange ruleInRange
-    listInRange listsRise ruleRises rises levelsFit ruleLevelsFit levelsBelow weightsFit outweighs heavier Accepted
+unfolding sample every everyBelow someBelow firstNo questions queryInRange inRange othersInRange countsInRange levelInRange actionInRange
+    ruleInRange listInRange listsRise ruleRises rises levelsFit ruleLevelsFit levelsBelow weightsFit outweighs heavier Accepted
     worldOf worldIn alsoes firedOf
     fits fires tried pass passes upTo costOf weighed takenWithin minimal lightest lighter best clears enough firedFor slim
 tested = record {

@@ -1,27 +1,26 @@
 -- Entries past a count are ignored: records that agree below their counts are given the same answers.
-use Prim.Native.Nat.{ℕ, zero, suc, _^_, _≤_}
-use mathlib.Core.Bool.{Bool, true, false, _&&_}
+use Prim.Native.Nat.{ℕ, zero, suc, _≤_}
+use mathlib.Core.Bool.{Bool, true}
 use mathlib.Core.List.{List, []}
-use mathlib.Core.Option.{Option, none, some}
 use mathlib.Core.Path.{_≡_, refl, sym, _∙_, ap}
 use native.Mathlib.Nat.{le-refl}
 use native.Mathlib.Omega.{arith}
 use lib.Dec.{T}
-use lib.ListN.{length}
-use Rattle.mask.specs.Mask.{contains}
-use Rattle.mask.specs.Laws.Tests.{someBelow-same}
+use lib.ListN.{length, replicate}
 use Rattle.policy.specs.declared.Policy.{Policy}
 use Rattle.policy.specs.declared.Query.{Query}
-use Rattle.policy.specs.Record.{cut, Agree}
+use Rattle.policy.specs.declared.Rule.{Rule}
+use Rattle.policy.specs.Record.{ruleOf, cutRule, cut, Agree}
 use Rattle.policy.specs.Questions.{firstNo, questions, queryInRange, inRange}
 use Rattle.policy.specs.Laws.{answers, accepted}
-use Rattle.policy.specs.Laws.Cut.{weight-cut, questions-cut}
+use Rattle.policy.specs.Laws.Cut.{listed-cut, rule-cut, head-cut, weight-cut, others-cut, rise-cut, fit-with-cut, questions-cut}
 use Rattle.model.specs.Laws.Cut.{world-cut, fired-cut}
 use Rattle.engine.specs.Sets.{weighed, costOf}
-use Rattle.engine.specs.Family.{lighter, takenWithin, minimal, lightest}
-use Rattle.engine.specs.Calls.{refusedOr, answer, offerInRange, offerQuestions, firedFor, enough, clears, slim, slimSets, best}
-use Rattle.engine.specs.Calls.{listQuestions, checkOf, judgeOf, fireOf, chooseOf, listOf, listAfter}
-use Rattle.engine.specs.Laws.Among.{among-same}
+use Rattle.engine.specs.Calls.{answer, offerInRange, offerQuestions, firedFor, enough, clears, slimSets, best, listQuestions}
+use Rattle.engine.specs.Calls.{checkOf, judgeOf, fireOf, chooseOf, listOf, listAfter}
+use Rattle.engine.specs.Levels.{asked, raised, lowest, levelQuestions, foundLevels}
+use Rattle.engine.specs.Laws.Levels.{rounds-same}
+use Rattle.engine.specs.Laws.Alike.{refused-same, slim-sets-alike, answer-alike}
 use Rattle.engine.specs.Laws.Refusals.{offer-accepted, list-accepted}
 
 -- what every call returns is the same for both records
@@ -32,33 +31,7 @@ pub record Ignored (p p′ : Policy) : Type 0 where
   pub choose : (q : Query) → chooseOf p q ≡ chooseOf p′ q
   pub list : (q : Query) (places : ℕ) → listOf p q places ≡ listOf p′ q places
   pub after : (q : Query) (before : List ℕ) → listAfter p q before ≡ listAfter p′ q before
-
--- refusals by the same number, or the same answers
-refused-same : {A : Type 0} (n m : ℕ) (refuse : ℕ → A) (a b : A) → n ≡ m → (m ≡ 0 → a ≡ b) → refusedOr n refuse a ≡ refusedOr m refuse b
-unfolding refusedOr
-refused-same n zero refuse a b e f = rw e (f refl)
-refused-same n (suc m) refuse a b e f = rw e
-
--- families with the same tests have the same minimal sets
-minimal-same : (f g : ℕ → Bool) → ((s : ℕ) → f s ≡ g s) → (s : ℕ) → minimal f s ≡ minimal g s
-unfolding minimal takenWithin
-minimal-same f g e s =
-    rw (e s, someBelow-same s (λ t. contains s t && f t) (λ t. contains s t && g t) (λ t h. rw (e t)))
-
--- and with the same costs the same lightest one
-lighter-same : (c d : ℕ → ℕ) → ((s : ℕ) → c s ≡ d s) → (o : Option ℕ) (s : ℕ) → lighter c o s ≡ lighter d o s
-unfolding lighter
-lighter-same c d e none s = refl
-lighter-same c d e (some b) s = rw (e s, e b)
-
-lightest-same : (f g : ℕ → Bool) (c d : ℕ → ℕ) → ((s : ℕ) → f s ≡ g s) → ((s : ℕ) → c s ≡ d s)
-    → (n : ℕ) → lightest f c n ≡ lightest g d n
-unfolding lightest
-lightest-same f g c d e h zero = refl
-lightest-same f g c d e h (suc n) = λ i. elim (e n i) [
-  | false ↦ lightest-same f g c d e h n i
-  | true ↦ (ap (λ (o : Option ℕ). lighter c o n) (lightest-same f g c d e h n) ∙ lighter-same c d h (lightest g d n) n) i
-]
+  pub levels : foundLevels p ≡ foundLevels p′
 
 module _ (p : Policy) where
   -- the cost
@@ -70,11 +43,6 @@ module _ (p : Policy) where
   cost-cut : (s : ℕ) → costOf (cut p) s ≡ costOf p s
   unfolding costOf
   cost-cut s = weighed-cut s (p .actions) (le-refl (p .actions))
-
-  answer-cut : (n : ℕ) (o : Option ℕ) → answer (cut p) n o ≡ answer p n o
-  unfolding answer
-  answer-cut n none = refl
-  answer-cut n (some s) = rw (cost-cut s)
 
 -- where question 3 is answered yes
 module _ (p : Policy) (q : Query) (t : T (inRange p)) where
@@ -91,13 +59,31 @@ module _ (p : Policy) (q : Query) (t : T (inRange p)) where
   clears-cut s = rw (enough-cut s)
 
   slim-sets-cut : slimSets (cut p) q ≡ slimSets p q
-  unfolding slimSets slim
-  slim-sets-cut = among-same (slim (cut p) q) (slim p q) (2 ^ p .actions)
-      (λ s h. minimal-same (clears (cut p) q) (clears p q) clears-cut s)
+  slim-sets-cut = slim-sets-alike (cut p) p q refl clears-cut
 
-  best-cut : best (cut p) q ≡ best p q
-  unfolding best
-  best-cut = lightest-same (clears (cut p) q) (clears p q) (costOf (cut p)) (costOf p) clears-cut (cost-cut p) (2 ^ p .actions)
+  answer-cut : answer (cut p) (length (slimSets (cut p) q)) (best (cut p) q) ≡ answer p (length (slimSets p q)) (best p q)
+  answer-cut = answer-alike (cut p) p q refl clears-cut (cost-cut p)
+
+-- the levels found
+asked-level-cut : (level : List ℕ) (r : Rule) → asked level (cutRule r) ≡ asked level r
+unfolding asked
+asked-level-cut level r = rw (listed-cut (r .ifs), listed-cut (r .unless))
+
+module _ (p : Policy) where
+  raised-cut : (n : ℕ) → n ≤ p .rules → (level : List ℕ) → raised (cut p) n level ≡ raised p n level
+  unfolding raised
+  raised-cut zero h level = refl
+  raised-cut (suc n) h level =
+      let before : n ≤ p .rules = omega arith in
+      rw (raised-cut n before level, head-cut p n h, rule-cut p n h, asked-level-cut (raised p n level) (ruleOf p n))
+
+  levels-cut : foundLevels (cut p) ≡ foundLevels p
+  unfolding foundLevels levelQuestions lowest
+  levels-cut = rw (
+    others-cut p,
+    rise-cut p,
+    rounds-same (cut p) p (fit-with-cut p) (raised-cut (p .rules) (le-refl (p .rules))) 1921 (replicate 128 0),
+  )
 
 module _ (p : Policy) where
   asked-cut : (rest : Bool) → firstNo (questions (cut p) rest) ≡ firstNo (questions p rest)
@@ -127,7 +113,7 @@ module _ (p : Policy) where
     unfolding chooseOf queryInRange
     choose-cut = refused-same _ _ _ _ _ (asked-cut (queryInRange p q)) (λ e.
         let t = answers p (queryInRange p q) e .range in
-        rw (slim-sets-cut p q t, best-cut p q t) (answer-cut p (length (slimSets p q)) (best p q)))
+        answer-cut p q t)
 
     count-cut : (places : ℕ) → listOf (cut p) q places ≡ listOf p q places
     unfolding listOf
@@ -149,6 +135,7 @@ module _ (p : Policy) where
     choose = choose-cut;
     list = count-cut;
     after = after-cut;
+    levels = levels-cut p;
   }
 
 -- and so any two that agree below their counts
@@ -160,4 +147,5 @@ ignored p p′ e = let a = cut-same p in let b = cut-same p′ in record {
   choose = λ q. sym (a .choose q) ∙ ap (λ (r : Policy). chooseOf r q) e ∙ b .choose q;
   list = λ q places. sym (a .list q places) ∙ ap (λ (r : Policy). listOf r q places) e ∙ b .list q places;
   after = λ q before. sym (a .after q before) ∙ ap (λ (r : Policy). listAfter r q before) e ∙ b .after q before;
+  levels = sym (a .levels) ∙ ap foundLevels e ∙ b .levels;
 }

@@ -1,23 +1,23 @@
 -- The decisions that have a derivation are the stratified model of the world, and the only one.
-use Prim.Native.Nat.{ℕ, zero, suc, _≤_, _<_}
+use Prim.Native.Nat.{ℕ, zero, suc, _<_, _≤_}
 use mathlib.Core.Bool.{false}
 use mathlib.Core.List.{List, [], _∷_, _++_, List·Memᴰ·head, Memᴰ·append-right}
 use mathlib.Core.Logic.{⊎-elim, _↔_}
 use mathlib.Core.Path.{_≡_, refl, subst}
-use native.Mathlib.Nat.{eq-or-lt-of-le, le-refl}
+use native.Mathlib.Nat.{eq-or-lt-of-le, le-refl, le-of-eq}
 use native.Mathlib.Omega.{arith}
-use lib.ListN.{List·getD-eq-default}
+use lib.ListN.{getD, List·getD-eq-default}
 use Rattle.mask.specs.Laws.Tests.{untrue, last-or-below}
 use Rattle.policy.specs.declared.Policy.{Policy}
 use Rattle.policy.specs.declared.Query.{Query}
 use Rattle.policy.specs.Questions.{Accepted}
-use Rattle.policy.specs.Record.{headOf, levelOf}
+use Rattle.policy.specs.Record.{headOf, levelOf, withLevels}
 use Rattle.model.specs.Derivation.{Steps, Derivation, Derivable}
 use Rattle.model.specs.Fire.{State, holds, upTo}
 use Rattle.model.specs.Model.{Applies, Model, IsModel}
 use Rattle.model.specs.Laws.Strata.{Stratified, stratified}
-use Rattle.model.specs.Laws.Each.{Each, each-nil, each-head, each-tail, each-cons}
-use Rattle.model.specs.Laws.Derived.{unfolds, levels-of}
+use Rattle.model.specs.Laws.Each.{Each, each-nil, each-cons}
+use Rattle.model.specs.Laws.Derived.{unfolds}
 use Rattle.model.specs.Laws.Invariant.{Good, lower-held}
 use Rattle.model.specs.Laws.Levels.{good-upTo}
 
@@ -33,51 +33,57 @@ module _ (p : Policy) (w : ℕ) (s : Stratified p) where
   in-vain : holds whole 128 ≡ false
   in-vain = List·getD-eq-default (whole .held) false {n = 128} (omega (arith, good .size))
 
-  -- the head of every rule that applies has a derivation
-  derivable-closed : (k : ℕ) → Applies p w (Derivable p w) (Derivable p w) k → Derivable p w (headOf p k)
-  derivable-closed k a = good .sound (headOf p k) (good .closed in-vain k (a .exists) (s .levels k (a .exists)) (record {
-    enabled = a .enabled;
-    ifs = λ d m. lower-held p w 128 s 16 whole good in-vain d
-        (omega (arith, s .ifs k d (a .exists) m, s .levels k (a .exists))) (a .ifs d m);
-    unless = λ d m. untrue (holds whole d) λ h. a .unless d m (good .sound d h);
-  }))
+  -- with any levels f that fit the rules, the decisions that have a derivation by p's own are the stratified model
+  module _ (f : List ℕ) (fit : Stratified (withLevels p f)) where
+    -- the head of every rule that applies has a derivation
+    derivable-closed : (k : ℕ) → Applies (withLevels p f) w (Derivable p w) (Derivable p w) k → Derivable p w (headOf p k)
+    derivable-closed k a = good .sound (headOf p k) (good .closed in-vain k (a .exists) (s .levels k (a .exists)) (record {
+      enabled = a .enabled;
+      ifs = λ d m. lower-held p w 128 s 16 whole good in-vain d
+          (omega (arith, s .ifs k d (a .exists) m, s .levels k (a .exists))) (a .ifs d m);
+      unless = λ d m. untrue (holds whole d) λ h. a .unless d m (good .sound d h);
+    }))
 
-  -- along a derivation every head has one, and is in each set that the level's rules ask for
-  module _ (n : ℕ) (X : ℕ → Type 0) (agrees : (d : ℕ) → levelOf p d < n → X d ↔ Derivable p w d)
-      (closed : (k : ℕ) → levelOf p (headOf p k) ≡ n → Applies p w X (Derivable p w) k → X (headOf p k)) where
-    heads-in : (seen ks : List ℕ) → Each (λ d. X d × Derivable p w d) seen → Each (λ k. levelOf p (headOf p k) ≤ n) ks
-        → Steps p w (Derivable p w) seen ks → Each (λ k. X (headOf p k)) ks
-    heads-in seen [] hs ls ts = each-nil _
-    heads-in seen (k ∷ ks) hs ls ts = each-cons here (heads-in (headOf p k ∷ seen) ks (each-cons (here, derived) hs) (each-tail ls) (ts .1))
-      where
-        derived : Derivable p w (headOf p k)
-        derived = derivable-closed k (record {
-          exists = ts .0 .exists;
-          enabled = ts .0 .enabled;
-          ifs = λ d m. hs d (ts .0 .ifs d m) .1;
-          unless = ts .0 .unless;
-        })
+    -- along a derivation every head has one, and is in each set that the rules of a level ask for, unless its own is higher
+    module _ (n : ℕ) (X : ℕ → Type 0) (agrees : (d : ℕ) → getD f d 0 < n → X d ↔ Derivable p w d)
+        (closed : (k : ℕ) → getD f (headOf p k) 0 ≡ n → Applies (withLevels p f) w X (Derivable p w) k → X (headOf p k)) where
+      abbrev In : ℕ → Type 0
+      In d = (getD f d 0 ≤ n → X d) × Derivable p w d
 
-        here : X (headOf p k)
-        here = ⊎-elim
-            (λ (e : levelOf p (headOf p k) ≡ n). closed k e (record {
-              exists = ts .0 .exists;
-              enabled = ts .0 .enabled;
-              ifs = λ d m. hs d (ts .0 .ifs d m) .0;
-              unless = ts .0 .unless;
-            }))
-            (λ (l : levelOf p (headOf p k) < n). agrees (headOf p k) l .1 derived) (eq-or-lt-of-le (each-head ls))
+      heads-in : (seen ks : List ℕ) → Each In seen → Steps p w (Derivable p w) seen ks → Each (λ k. In (headOf p k)) ks
+      heads-in seen [] hs ts = each-nil _
+      heads-in seen (k ∷ ks) hs ts = each-cons here (heads-in (headOf p k ∷ seen) ks (each-cons here hs) (ts .1))
+        where
+          derived : Derivable p w (headOf p k)
+          derived = derivable-closed k (record {
+            exists = ts .0 .exists;
+            enabled = ts .0 .enabled;
+            ifs = λ d m. hs d (ts .0 .ifs d m) .1;
+            unless = ts .0 .unless;
+          })
 
-    derivable-least : (d : ℕ) → levelOf p d ≡ n → Derivable p w d → X d
-    derivable-least d e t = go (unfolds p w s d .0 t)
-      where
-        go : (before : List ℕ) × (last : ℕ) × Derivation p w (Derivable p w) d before last → X d
-        go (before, last, v) = subst X (v .ends) (heads-in [] (before ++ (last ∷ [])) (each-nil _)
-            (λ k m. omega (arith, levels-of p w s v k m)) (v .steps) last (Memᴰ·append-right before (List·Memᴰ·head refl)))
+          here : In (headOf p k)
+          here = (
+            λ h. ⊎-elim
+                (λ (e : getD f (headOf p k) 0 ≡ n). closed k e (record {
+                  exists = ts .0 .exists;
+                  enabled = ts .0 .enabled;
+                  ifs = λ d m. hs d (ts .0 .ifs d m) .0 (omega (arith, fit .ifs k d (ts .0 .exists) m));
+                  unless = ts .0 .unless;
+                }))
+                (λ (l : getD f (headOf p k) 0 < n). agrees (headOf p k) l .1 derived) (eq-or-lt-of-le h),
+            derived,
+          )
 
-  -- so the derivable decisions are the stratified model
-  derivable-model : Model p w (Derivable p w)
-  derivable-model = record { closed = derivable-closed; least = derivable-least }
+      derivable-least : (d : ℕ) → getD f d 0 ≡ n → Derivable p w d → X d
+      derivable-least d e t = go (unfolds p w s d .0 t)
+        where
+          go : (before : List ℕ) × (last : ℕ) × Derivation p w (Derivable p w) d before last → X d
+          go (before, last, v) = subst In (v .ends) (heads-in [] (before ++ (last ∷ [])) (each-nil _)
+              (v .steps) last (Memᴰ·append-right before (List·Memᴰ·head refl))) .0 (le-of-eq e)
+
+    derivable-model : Model (withLevels p f) w (Derivable p w)
+    derivable-model = record { closed = derivable-closed; least = derivable-least }
 
   -- a model is closed, at a level, under the rules that apply by another one that agrees with it at lower levels
   closed-by : (M N : ℕ → Type 0) → Model p w N → (n : ℕ) → ((d : ℕ) → levelOf p d < n → M d ↔ N d)
@@ -105,7 +111,14 @@ module _ (p : Policy) (w : ℕ) (s : Stratified p) where
 
   -- so there is no other
   only-model : (M : ℕ → Type 0) → Model p w M → (d : ℕ) → M d ↔ Derivable p w d
-  only-model M m d = agree M (Derivable p w) m derivable-model (suc (levelOf p d)) d (le-refl (suc (levelOf p d)))
+  only-model M m d = agree M (Derivable p w) m (derivable-model (p .level) s) (suc (levelOf p d)) d (le-refl (suc (levelOf p d)))
 
 pub is-model : (p : Policy) (q : Query) → Accepted p q → (w : ℕ) → IsModel p w
-is-model p q ok w = let s = stratified p q ok in record { model = derivable-model p w s; only = only-model p w s }
+is-model p q ok w = let s = stratified p q ok in record { model = derivable-model p w s (p .level) s; only = only-model p w s }
+
+-- the model does not depend on which levels are used, so they fit: with others, f, the same decisions have a derivation
+pub same-model : (p : Policy) (f : List ℕ) (q : Query) → Accepted p q → Accepted (withLevels p f) q
+    → (w d : ℕ) → Derivable p w d ↔ Derivable (withLevels p f) w d
+same-model p f q ok with-f w d =
+    let fit = stratified (withLevels p f) q with-f in
+    only-model (withLevels p f) w fit (Derivable p w) (derivable-model p w (stratified p q ok) f fit) d

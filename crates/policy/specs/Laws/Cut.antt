@@ -14,9 +14,9 @@ use Rattle.policy.specs.declared.Action.{Action}
 use Rattle.policy.specs.declared.Rule.{Rule}
 use Rattle.policy.specs.declared.Decisions.{Decisions}
 use Rattle.policy.specs.Record.{noRule, noAction, listed, levelsOf, actionsOf, rulesOf, ruleOf, headOf, levelOf}
-use Rattle.policy.specs.Record.{alsoOf, weightOf, cutList, cutRule, cut}
+use Rattle.policy.specs.Record.{alsoOf, weightOf, cutList, cutRule, cut, withLevels}
 use Rattle.policy.specs.Questions.{Question, firstNo, questions, listInRange, ruleInRange, ruleRises, levelsBelow, ruleLevelsFit}
-use Rattle.policy.specs.Questions.{heavier, outweighs, inRange, listsRise, levelsFit, weightsFit}
+use Rattle.policy.specs.Questions.{heavier, outweighs, othersInRange, inRange, listsRise, levelsFit, weightsFit}
 use Rattle.policy.specs.Laws.{ListFits, RuleFits, rule-fits}
 
 -- the front of a mapped list
@@ -60,6 +60,10 @@ module _ (level : List ℕ) (n : ℕ) where
   rule-levels m r f =
       rw (getD-take n level (r .head) 0 (f .head), levels-below _ (r .ifs) (f .ifs), levels-below _ (r .unless) (f .unless))
 
+rule-fits-cut : (level : List ℕ) (r : Rule) → ruleLevelsFit level (cutRule r) ≡ ruleLevelsFit level r
+unfolding ruleLevelsFit levelsBelow
+rule-fits-cut level r = rw (listed-cut (r .ifs), listed-cut (r .unless))
+
 action-weights : (action : List Action) (m : ℕ) (a : Action) → outweighs (take m action) m a ≡ outweighs action m a
 unfolding outweighs heavier
 action-weights action m a = everyBelow-same m (heavier (take m action) a) (heavier action a) (λ b h. rw (getD-take m action b noAction h))
@@ -101,27 +105,35 @@ module _ (p : Policy) where
   rules-same f g e = ap (every f) rules-cut ∙ every-map f cutRule (rulesOf p) ∙ every-same (λ r. f (cutRule r)) g (rulesOf p) e
 
   -- question 3
-  range-cut : inRange (cut p) ≡ inRange p
-  unfolding inRange
-  range-cut = rw (
-    levels-cut,
+  pub others-cut : othersInRange (cut p) ≡ othersInRange p
+  unfolding othersInRange
+  others-cut = rw (
     actions-cut,
     rules-same (ruleInRange (p .decisions) (p .actions)) (ruleInRange (p .decisions) (p .actions))
         (λ r m. rule-range (p .decisions) (p .actions) r),
   )
 
+  range-cut : inRange (cut p) ≡ inRange p
+  unfolding inRange
+  range-cut = rw (others-cut, levels-cut)
+
   -- question 4
-  rise-cut : listsRise (cut p) ≡ listsRise p
+  pub rise-cut : listsRise (cut p) ≡ listsRise p
   unfolding listsRise
   rise-cut = rules-same ruleRises ruleRises (λ r m. rule-rises r)
 
   -- question 5, where question 3 is answered yes
   fit-cut : T (inRange p) → levelsFit (cut p) ≡ levelsFit p
-  unfolding levelsFit inRange
+  unfolding levelsFit inRange othersInRange
   fit-cut t = rules-same (ruleLevelsFit (levelsOf p)) (ruleLevelsFit (p .level)) (λ r m.
       let fits : T (every (ruleInRange (p .decisions) (p .actions)) (rulesOf p)) = search parts in
       rule-levels (p .level) (p .decisions) (p .actions) r
       (rule-fits (p .decisions) (p .actions) r (every-at (ruleInRange (p .decisions) (p .actions)) (rulesOf p) fits r m)))
+
+  -- and with levels of which none is cut
+  pub fit-with-cut : (level : List ℕ) → levelsFit (withLevels (cut p) level) ≡ levelsFit (withLevels p level)
+  unfolding levelsFit
+  fit-with-cut level = rules-same (ruleLevelsFit level) (ruleLevelsFit level) (λ r m. rule-fits-cut level r)
 
   -- question 6
   weights-cut : weightsFit (cut p) ≡ weightsFit p

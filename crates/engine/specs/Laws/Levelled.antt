@@ -1,0 +1,95 @@
+-- Which levels are used makes no difference, so they fit: the same sets clear, and every answer but Fire's is the same.
+use Prim.Native.Nat.{ℕ}
+use mathlib.Core.Bool.{Bool}
+use mathlib.Core.List.{List}
+use mathlib.Core.Logic.{_↔_}
+use mathlib.Core.Path.{_≡_, refl}
+use Rattle.mask.specs.Laws.Tests.{same, is-true}
+use Rattle.policy.specs.declared.Policy.{Policy}
+use Rattle.policy.specs.declared.Query.{Query}
+use Rattle.policy.specs.Record.{withLevels}
+use Rattle.policy.specs.Questions.{inRange, listsRise, levelsFit, weightsFit, queryInRange, questions, Accepted}
+use Rattle.policy.specs.Laws.{Answers, accepted}
+use Rattle.model.specs.World.{worldOf}
+use Rattle.model.specs.Derivation.{Derivable}
+use Rattle.model.specs.Laws.Model.{same-model}
+use Rattle.engine.specs.Sets.{costOf}
+use Rattle.engine.specs.Calls.{offerInRange, offerQuestions, listQuestions, enough, clears, slimSets, judgeOf, chooseOf}
+use Rattle.engine.specs.Calls.{listOf, listAfter}
+use Rattle.engine.specs.Laws.Alike.{slim-sets-alike, answer-alike}
+use Rattle.engine.specs.Laws.Decide.{enough-derivable}
+
+-- two policies answer a query alike; Fire may show other rules
+pub record SameAnswers (p p′ : Policy) (q : Query) : Type 0 where
+  pub derivable : (w d : ℕ) → Derivable p w d ↔ Derivable p′ w d
+  pub judge : (s : ℕ) → judgeOf p q s ≡ judgeOf p′ q s
+  pub choose : chooseOf p q ≡ chooseOf p′ q
+  pub list : (places : ℕ) → listOf p q places ≡ listOf p′ q places
+  pub after : (before : List ℕ) → listAfter p q before ≡ listAfter p′ q before
+
+-- the questions of accepted policies are answered alike
+questions-same : {p p′ : Policy} {a b : Bool} → Answers p a → Answers p′ b → (rest : Bool) → questions p rest ≡ questions p′ rest
+unfolding questions
+questions-same {p} {p′} known known′ rest = rw (
+  is-true (inRange p) (known .range),
+  is-true (inRange p′) (known′ .range),
+  is-true (listsRise p) (known .rise),
+  is-true (listsRise p′) (known′ .rise),
+  is-true (levelsFit p) (known .levels),
+  is-true (levelsFit p′) (known′ .levels),
+  is-true (weightsFit p) (known .weights),
+  is-true (weightsFit p′) (known′ .weights),
+)
+
+module _ (p : Policy) (level : List ℕ) (q : Query) (ok : Accepted p q) (fit : Accepted (withLevels p level) q) where
+  p′ : Policy
+  p′ = withLevels p level
+
+  enough-same : (s : ℕ) → enough p q s ≡ enough p′ q s
+  unfolding p′ worldOf
+  enough-same s = let model = same-model p level q ok fit (worldOf p (q .done) s) (q .want) in
+      same (enough p q s) (enough p′ q s)
+      (λ t. enough-derivable p′ q fit s .1 (model .0 (enough-derivable p q ok s .0 t)))
+      (λ t. enough-derivable p q ok s .1 (model .1 (enough-derivable p′ q fit s .0 t)))
+
+  clears-same : (s : ℕ) → clears p q s ≡ clears p′ q s
+  unfolding clears
+  clears-same s = rw (enough-same s)
+
+  cost-same : (s : ℕ) → costOf p s ≡ costOf p′ s
+  unfolding costOf p′
+  cost-same s = refl
+
+  asked-same : (rest : Bool) → questions p rest ≡ questions p′ rest
+  unfolding p′
+  asked-same = questions-same (accepted p q ok) (accepted (withLevels p level) q fit)
+
+  slim-sets-same : slimSets p q ≡ slimSets p′ q
+  unfolding p′
+  slim-sets-same = slim-sets-alike p p′ q refl clears-same
+
+  judge-same : (s : ℕ) → judgeOf p q s ≡ judgeOf p′ q s
+  unfolding judgeOf offerQuestions queryInRange p′
+  judge-same s = rw (asked-same (offerInRange p q s), enough-same s, cost-same s)
+
+  choose-same : chooseOf p q ≡ chooseOf p′ q
+  unfolding chooseOf queryInRange p′
+  choose-same = rw (asked-same (queryInRange p q), answer-alike p p′ q refl clears-same cost-same)
+
+  list-same : (places : ℕ) → listOf p q places ≡ listOf p′ q places
+  unfolding listOf listQuestions queryInRange p′
+  list-same places = rw (asked-same (queryInRange p q), slim-sets-same)
+
+  after-same : (before : List ℕ) → listAfter p q before ≡ listAfter p′ q before
+  unfolding listAfter listQuestions queryInRange p′
+  after-same before = rw (asked-same (queryInRange p q), slim-sets-same)
+
+  pub same-answers : SameAnswers p (withLevels p level) q
+  unfolding p′
+  same-answers = record {
+    derivable = same-model p level q ok fit;
+    judge = judge-same;
+    choose = choose-same;
+    list = list-same;
+    after = after-same;
+  }
