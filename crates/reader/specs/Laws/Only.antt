@@ -1,22 +1,22 @@
--- The lines of a file state one record: what is read of it.
+-- The lines of a file state one record: what is drafted of it, and what is read of it where it is accepted.
 use Prim.Native.Nat.{ℕ, zero, suc, _≤_, _<_}
 use native.Mathlib.Omega.{arith}
 use mathlib.Core.Path.{_≡_, refl, sym, ap, _∙_}
-use mathlib.Core.Bool.{true}
 use mathlib.Core.List.{List, [], _∷_, map}
 use lib.ListN.{length, take, getD, List·getD-append, length-map, length-take}
 use lib.Seq.{getD-take}
+use Rattle.mask.specs.Laws.Tests.{passes}
 use Rattle.policy.specs.declared.Rule.{Rule}
 use Rattle.policy.specs.declared.Decisions.{Decisions}
 use Rattle.policy.specs.Record.{listed, levelsOf, actionsOf, rulesOf, ruleOf, noAction, noRule}
-use Rattle.policy.specs.Laws.{answers, InRange, in-range}
-use Rattle.engine.specs.Calls.{checkOf}
+use Rattle.policy.specs.Laws.{InRange, in-range}
 use Rattle.reader.specs.declared.Reading.{Reading}
 use Rattle.reader.specs.Format.{filled, decisionsOf}
-use Rattle.reader.specs.File.{zeroRule, zeroQuery, recordOf, readingOf, readOf}
+use Rattle.reader.specs.File.{zeroRule, zeroQuery, recordOf, readingOf, draftOf, readOf}
 use Rattle.reader.specs.Cleared.{clearedRule, cleared, clearedReading}
-use Rattle.reader.specs.Claim.{States}
-use Rattle.reader.specs.Laws.Back.{Sized, filled-length, reads-back}
+use Rattle.reader.specs.Claim.{AcceptedFile, DraftStates, States}
+use Rattle.reader.specs.Laws.Files.{draft-of-accepted}
+use Rattle.reader.specs.Laws.Back.{Sized, filled-length, draft-back}
 
 -- the entry at i of a list with f of each entry
 map-at : {A B : Type 0} (f : A → B) (d : A) (e : B) (l : List A) (i : ℕ) → i < length l → getD (map f l) i e ≡ f (getD l i d)
@@ -24,10 +24,9 @@ map-at f d e [] i h = absurd (omega arith)
 map-at f d e (x ∷ l) zero h = refl
 map-at f d e (x ∷ l) (suc i) h = map-at f d e l i (omega arith)
 
-module _ (s : List ℕ) (r : Reading) (stated : States s r) where
+module _ (s : List ℕ) (r : Reading) (stated : DraftStates s r) where
   range : InRange (r .policy)
-  unfolding checkOf
-  range = in-range (r .policy) (answers (r .policy) true (stated .policy) .range)
+  range = in-range (r .policy) (passes _ (stated .range))
 
   -- its arrays are filled up with zeros, and so are full
   levels-full : length (r .policy .level) ≡ 128
@@ -89,7 +88,11 @@ module _ (s : List ℕ) (r : Reading) (stated : States s r) where
     unless = λ k less. list-full k less (λ x. x .unless) refl (range .rule k less .unless .count);
   }
 
-  pub only : r ≡ readOf s
-  only =
-      let back = reads-back (r .policy) (r .queries .count) (r .queries .at) sized (stated .few) (stated .policy) (stated .queries) in
-      stated .clear ∙ sym back ∙ ap readOf (sym (stated .text))
+  draft-only : r ≡ draftOf s
+  draft-only =
+      let back = draft-back (r .policy) (r .queries .count) (r .queries .at) sized (stated .few) (stated .range) (stated .rise)
+      (stated .queries) in
+      stated .clear ∙ sym back ∙ ap draftOf (sym (stated .text))
+
+pub only : (s : List ℕ) → AcceptedFile s → (r : Reading) → States s r → r ≡ readOf s
+only s e r stated = draft-only s r (stated .draft) ∙ draft-of-accepted s e

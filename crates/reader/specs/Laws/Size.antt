@@ -20,8 +20,7 @@ use Rattle.reader.specs.Laws.Tests.{fits-parts}
 use Rattle.reader.specs.Laws.Numbers.{decimalBy-length}
 use Rattle.reader.specs.Laws.Lists.{ReadableList}
 use Rattle.reader.specs.Laws.Records.{ReadableAction, ReadableRule, ReadableQuery}
-use Rattle.reader.specs.Laws.Readings.{queriesOf, ReadableLines}
-use Rattle.reader.specs.Laws.Files.{textOf}
+use Rattle.reader.specs.Laws.Readings.{queriesOf, textOf, ReadableLines}
 
 -- a number below 10 ^ k has at most k digits
 decimal-length : (k n : ℕ) → n < 10 ^ suc k → length (decimal n) ≤ suc k

@@ -1,0 +1,88 @@
+-- Levels that fit, put into a draft in place of its own, make an accepted file.
+use Prim.Native.Nat.{ℕ, zero, suc, _≤_, _<_}
+use native.Mathlib.Numerals.{unary-clauses}
+use native.Mathlib.Omega.{arith}
+use mathlib.Core.Path.{_≡_, refl, ap, ap₂, _∙_}
+use mathlib.Core.Bool.{true}
+use mathlib.Core.List.{List, [], _∷_}
+use lib.ListN.{length, getD, take, replicate}
+use lib.Seq.{length-take-le}
+use Rattle.mask.specs.Laws.Tests.{passes}
+use Rattle.policy.specs.Record.{withLevels}
+use Rattle.policy.specs.Questions.{levelsFit, weightsFit}
+use Rattle.reader.specs.declared.Reading.{Reading}
+use Rattle.reader.specs.Written.{fileOf}
+use Rattle.reader.specs.Format.{filled}
+use Rattle.reader.specs.File.{recordOf, readingOf, draftOf, readOf}
+use Rattle.reader.specs.Laws.All.{all-of}
+use Rattle.reader.specs.Laws.Readings.{textOf, ReadableEntries, ReadableLines}
+use Rattle.reader.specs.Laws.Files.{drafted, read-passed, draft-complete}
+
+-- levels that a file of n decisions states: 128 numbers, at most 15 below n and 0 from n on
+pub record FileLevels (n : ℕ) (level : List ℕ) : Type 0 where
+  pub places : length level ≡ 128
+  pub small : (d : ℕ) → d < n → getD level d 0 ≤ 15
+  pub zeros : (d : ℕ) → n ≤ d → getD level d 0 ≡ 0
+
+-- a list of zeros, and one with zeros from n on
+only-zeros : (l : List ℕ) → ((d : ℕ) → getD l d 0 ≡ 0) → l ≡ replicate (length l) 0
+only-zeros [] zeros = refl
+only-zeros (x ∷ l) zeros = ap₂ (λ y t. y ∷ t) (zeros 0) (only-zeros l (λ d. zeros (suc d)))
+
+filled-zeros : (n : ℕ) (l : List ℕ) → ((d : ℕ) → n ≤ d → getD l d 0 ≡ 0) → l ≡ filled (length l) 0 (take n l)
+unfolding filled
+filled-zeros zero l zeros = simp unary-clauses (only-zeros l (λ d. zeros d (omega arith)))
+filled-zeros (suc n) [] zeros = refl
+filled-zeros (suc n) (x ∷ l) zeros = simp unary-clauses (ap (λ t. x ∷ t) (filled-zeros n l (λ d h. zeros (suc d) (omega arith))))
+
+-- the reading with these levels
+abbrev readingWith : Reading → List ℕ → Reading
+readingWith r level = record { refusal = 0; policy = withLevels (r .policy) level; queries = r .queries }
+
+-- lines can state it, if they can state the reading
+module _ (r : Reading) (level : List ℕ) (f : ReadableLines r) (g : FileLevels (r .policy .decisions) level) where
+  entries-with : let p = withLevels (r .policy) level in ReadableEntries (p .decisions) (p .actions) p
+  unfolding recordOf
+  entries-with =
+      let p = r .policy in
+      let e = f .policy .entries in
+      let n = p .decisions in
+      record {
+        decisions = refl;
+        actions = refl;
+        few-rules = e .few-rules;
+        level-count = length-take-le n level (omega (arith, g .places, f .policy .few-decisions));
+        action-count = e .action-count;
+        rule-count = e .rule-count;
+        levels = all-of (λ l. l ≤ 15) 0 level n (g .small);
+        action = e .action;
+        rule = e .rule;
+        clear = ap₂ withLevels (e .clear) (filled-zeros n level (g .zeros) ∙ ap (λ k. filled k 0 (take n level)) (g .places));
+      }
+
+  lines-with : ReadableLines (readingWith r level)
+  unfolding readingOf
+  lines-with =
+      let q = f .policy in record {
+        policy = record {
+          some-decisions = q .some-decisions;
+          few-decisions = q .few-decisions;
+          few-actions = q .few-actions;
+          entries = entries-with;
+        };
+        few = f .few;
+        places = f .places;
+        queries = f .queries;
+        clear = ap (λ (x : Reading). record { refusal = 0; policy = withLevels (r .policy) level; queries = x .queries }) (f .clear);
+      }
+
+-- the file with these levels is read as the draft with these levels
+pub levels-put : (s level : List ℕ) → let r = draftOf s in let p = withLevels (r .policy) level in
+    r .refusal ≡ 0 → FileLevels (p .decisions) level → levelsFit p ≡ true → weightsFit (r .policy) ≡ true
+    → readOf (fileOf p (r .queries .count) (r .queries .at)) ≡ record { refusal = 0; policy = p; queries = r .queries }
+unfolding weightsFit
+levels-put s level e g levels weights =
+    let r = draftOf s in
+    let put = readingWith r level in
+    let lines = lines-with r level (drafted s e .lines) g in
+    read-passed (textOf put) put (draft-complete put lines) refl (passes _ levels) (passes _ weights)
