@@ -1,4 +1,4 @@
--- That the list printed is that of the slim sets, and what the private functions say of a result and of its text.
-pub mod Put
+-- That the list printed is that of the slim sets, that the text fits the buffer, and what a result is.
 pub mod Worked
 pub mod Listed
+pub mod Fits

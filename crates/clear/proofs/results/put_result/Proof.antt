@@ -1,9 +1,11 @@
--- `clear::results::put_result` meets its contract: the result worked out is the calls', and so is its text.
+-- `clear::results::put_result` meets its contract: the result worked out is the calls', and so is its text, which fits.
 use mathlib.Core.Path.{_∙_}
+use native.Mathlib.Omega.{arith}
 use borrow.Author.Needs.{needs}
 use denote.Ref.{now}
 use Rattle.reader.specs.Written.{lineOf}
-use Rattle.clear.proofs.Putting.{both}
+use Rattle.text.specs.Laws.Putting.{both, same-text, stands}
+use Rattle.clear.specs.Laws.Fits.{text-fits}
 use Rattle.clear.proofs.Texts.{same-result}
 use Rattle.clear.proofs.results.put_result.Statement.{statement}
 use Rattle.clear.proofs.results.put_result.Tie as tie
@@ -11,17 +13,19 @@ use Rattle.clear.proofs.results.put_result.Tie as tie
 returns : tie.Need-returns
 unfolding lineOf
 returns c =
-    let s = c .before .before .before .before .before .before .before .before .before in
-    let w = c .before .before .before .before .before .before .before .work in
+    let rest = c .before .before in
+    let want = rest .before .before .before .before .before in
+    let w = want .before .before .before .before in
+    let s = w .before .before .before in
     let a = s .args in
-    let e = c .put-answer .ensures in
-    let whole = both (c .before .before .before .line .ensures .0) (e .0) in (
-      whole .holds ∙ same-result (a .policy) (a .query) (w .result) (now (a .places)) _ (s .pre .1) (w .ensures .0),
-      (e .1, (e .0 .long, w .ensures .1 ∙ s .pre .1)),
-    )
+    let same = same-result (a .policy) (a .query) (w .work .result) (now (a .places)) _ (s .pre .1) (w .work .ensures .0) in
+    let fits = text-fits (a .policy) (a .query) in
+    let whole = stands (same-text (both (want .line .ensures) (rest .put-answer .ensures)) same) (omega (arith, fits, s .pre .0)) in
+    (whole .holds, (omega (arith, whole .ends, fits), (whole .long ∙ s .pre .0, w .work .ensures .1 ∙ s .pre .1)))
 
 pub put-result-spec : {M : Type 1} → statement M
 put-result-spec =
     tie.close
     (tie.spec
-    (λ c κs. search needs) (λ c. search needs) (λ c. search needs) (λ c κs. search needs) (λ c κs. search needs) returns)
+    (λ c κs. search needs) (λ c. search needs) (λ c. search needs) (λ c κs. search needs) (λ c κs. search needs) (λ c. search needs)
+    returns)

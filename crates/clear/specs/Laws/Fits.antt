@@ -1,0 +1,72 @@
+-- The text of every query fits the 200,000 bytes of the program's buffer.
+use Prim.Native.Nat.{ℕ, _+_, _^_, _≤_}
+use mathlib.Core.Path.{_≡_}
+use mathlib.Core.List.{List}
+use native.Mathlib.Decide.{ℕ-discrete}
+use native.Mathlib.Omega.{arith}
+use lib.ListN.{length, length-append, length-take}
+use lib.Pow.{pow-mono}
+use Rattle.policy.specs.declared.Policy.{Policy}
+use Rattle.policy.specs.declared.Query.{Query}
+use Rattle.policy.specs.Questions.{firstNo, queryQuestions, Accepted}
+use Rattle.policy.specs.Laws.{accepted-range}
+use Rattle.engine.specs.declared.Answer.{Answer}
+use Rattle.engine.specs.declared.Answer.the-variants.{Refused as choose-refused, None, Chosen}
+use Rattle.engine.specs.Calls.{slim, slimSets, best, answer, chooseOf, fireOf}
+use Rattle.engine.specs.Laws.Among.{among-at}
+use Rattle.engine.specs.Laws.Few.{few-slim, fire-places}
+use Rattle.engine.specs.Laws.Refusals.{refused}
+use Rattle.reader.specs.Text.{decimal}
+use Rattle.reader.specs.Written.{lineOf, commas}
+use Rattle.reader.specs.Laws.All.{All}
+use Rattle.text.specs.Laws.Numbers.{five-digits, ten-digits, commas-length}
+use Rattle.clear.specs.Printed.{answerText, setsListed, rulesFired, textOf}
+use Rattle.clear.specs.Laws.Listed.{lists-slim}
+
+-- a line is its contents and its key, the = sign and the LF
+line-length : (key content : List ℕ) → length (lineOf key content) ≡ length key + (length content + 2)
+unfolding lineOf
+line-length key content = simp length-append (omega arith)
+
+-- the lines of an answer, where its sets take so many bytes and there are at most 128 rules
+answer-length : (a : Answer) (sets : List ℕ) (rules : ℕ → List ℕ)
+    → length (commas sets) ≤ 196608 → ((s : ℕ) → length (rules s) ≤ 128) → length (answerText a sets rules) ≤ 199000
+unfolding answerText
+answer-length (choose-refused n) sets rules few each = simp line-length (omega (arith, ten-digits n))
+answer-length None sets rules few each = simp line-length (omega arith)
+answer-length (Chosen c) sets rules few each =
+    simp (length-append, line-length) (omega (
+      arith,
+      few,
+      ten-digits (c .mask),
+      ten-digits (c .cost),
+      ten-digits (c .slim),
+      each (c .mask),
+      commas-length 10 (rules (c .mask)) (λ k m. ten-digits k),
+    ))
+
+module _ (p : Policy) (q : Query) where
+  -- a set has at most five digits
+  sets-length : Accepted p q → length (commas (setsListed p q)) ≤ 196608
+  unfolding slimSets
+  sets-length ok =
+      let small = pow-mono (accepted-range p q ok .actions) in
+      let five : All (λ s. length (decimal s) ≤ 5) (slimSets p q) =
+      λ s m. five-digits s (omega (arith, small, among-at (slim p q) (2 ^ p .actions) s m .0)) in
+      rw (lists-slim p q ok) (omega (arith, few-slim p q ok, commas-length 5 (slimSets p q) five))
+
+  rules-length : (s : ℕ) → length (rulesFired p q s) ≤ 128
+  unfolding rulesFired
+  rules-length s = omega (arith, length-take (fireOf p q s .count) (fireOf p q s .rules), fire-places p q s)
+
+  answer-fits : length (answerText (chooseOf p q) (setsListed p q) (rulesFired p q)) ≤ 199000
+  unfolding answerText chooseOf Accepted
+  answer-fits = elim (ℕ-discrete (firstNo (queryQuestions p q)) 0) [
+    | yes ok ↦ answer-length (chooseOf p q) (setsListed p q) (rulesFired p q) (sets-length ok) rules-length
+    | no not ↦ rw (refused (firstNo (queryQuestions p q)) choose-refused (answer p (length (slimSets p q)) (best p q)) not, line-length)
+        (omega (arith, ten-digits (firstNo (queryQuestions p q))))
+  ]
+
+  pub text-fits : length (textOf p q) ≤ 200000
+  unfolding textOf
+  text-fits = simp (length-append, line-length) (omega (arith, ten-digits (q .want), answer-fits))

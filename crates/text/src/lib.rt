@@ -1,0 +1,50 @@
+// Text put into a lent buffer behind its first `at` bytes. Each function returns where the text ends; bytes that do not fit
+// are dropped.
+ghost use mathlib.Core.List.{_++_};
+ghost use Rattle.reader.specs.Text.{ascii, decimal};
+ghost use Rattle.text.specs.Put.{Puts, comma};
+
+// Puts a text.
+pub fn put(buffer: &mut [u8], at: usize, text: &[u8]) -> usize
+    ensures { λ r. ⌜ Puts (now (buffer .entry)) at (now (text .entry)) (now (buffer .exit)) r ⌝ }
+{
+    let mut i = 0;
+    while i < text.len() {
+        let place = at + i;
+        if place >= buffer.len() {
+            return place;
+        }
+        buffer[place] = text[i];
+        i += 1;
+    }
+    at + i
+}
+
+// Puts the digits of a number.
+pub fn number(buffer: &mut [u8], at: usize, n: u32) -> usize
+    ensures { λ r. ⌜ Puts (now (buffer .entry)) at (decimal n) (now (buffer .exit)) r ⌝ }
+{
+    let mut text = [0u8; 20];
+    let k = io::decimal(n as u64, &mut text);
+    put(buffer, at, &text[..k])
+}
+
+// Puts a line: a key with its = sign, and a number.
+pub fn line(buffer: &mut [u8], at: usize, key: &[u8], n: u32) -> usize
+    ensures { λ r. ⌜ Puts (now (buffer .entry)) at (now (key .entry) ++ (decimal n ++ ascii "\n")) (now (buffer .exit)) r ⌝ }
+{
+    let at = put(buffer, at, key);
+    let at = number(buffer, at, n);
+    put(buffer, at, b"\n")
+}
+
+// Puts the number at place i of a list, with a comma before it unless it is the first.
+pub fn entry(buffer: &mut [u8], at: usize, i: usize, n: u16) -> usize
+    ensures { λ r. ⌜ Puts (now (buffer .entry)) at (comma i ++ decimal n) (now (buffer .exit)) r ⌝ }
+{
+    if i == 0 {
+        return number(buffer, at, n as u32);
+    }
+    let at = put(buffer, at, b",");
+    number(buffer, at, n as u32)
+}
