@@ -5,7 +5,7 @@ use mathlib.Core.List.{List, [], _∷_}
 use mathlib.Core.Logic.{_↔_, _≢_}
 use mathlib.Core.Path.{_≡_}
 use lib.Dec.{T}
-use lib.ListN.{getD, set, take, replicate}
+use lib.ListN.{length, getD, set, take, replicate}
 use Rattle.mask.specs.Every.{every}
 use Rattle.policy.specs.declared.Policy.{Policy}
 use Rattle.policy.specs.declared.Rule.{Rule}
@@ -62,6 +62,7 @@ module _ (p : Policy) where
 
   -- these levels fit, are 0 to 15, and none that fit have a lower one
   pub record Lowest (level : List ℕ) : Type 0 where
+    pub places : length level ≡ 128
     pub fit : T (fits level)
     pub range : (d : ℕ) → getD level d 0 ≤ 15
     pub least : (other : List ℕ) → T (fits other) → (d : ℕ) → getD level d 0 ≤ getD other d 0

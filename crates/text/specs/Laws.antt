@@ -1,3 +1,4 @@
--- Texts put one behind the other, and the lists of numbers that are put entry by entry.
+-- Texts put one behind the other, lists that are put entry by entry, and how long texts are.
 pub mod Putting
-pub mod Numbers
+pub mod Entries
+pub mod Lengths

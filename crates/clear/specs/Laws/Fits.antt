@@ -1,6 +1,5 @@
 -- The text of every query fits the 200,000 bytes of the program's buffer.
-use Prim.Native.Nat.{ℕ, _+_, _^_, _≤_}
-use mathlib.Core.Path.{_≡_}
+use Prim.Native.Nat.{ℕ, _^_, _≤_}
 use mathlib.Core.List.{List}
 use native.Mathlib.Decide.{ℕ-discrete}
 use native.Mathlib.Omega.{arith}
@@ -17,16 +16,11 @@ use Rattle.engine.specs.Laws.Among.{among-at}
 use Rattle.engine.specs.Laws.Few.{few-slim, fire-places}
 use Rattle.engine.specs.Laws.Refusals.{refused}
 use Rattle.reader.specs.Text.{decimal}
-use Rattle.reader.specs.Written.{lineOf, commas}
+use Rattle.reader.specs.Written.{commas}
 use Rattle.reader.specs.Laws.All.{All}
-use Rattle.text.specs.Laws.Numbers.{five-digits, ten-digits, commas-length}
+use Rattle.text.specs.Laws.Lengths.{five-digits, ten-digits, commas-length, line-length}
 use Rattle.clear.specs.Printed.{answerText, setsListed, rulesFired, textOf}
 use Rattle.clear.specs.Laws.Listed.{lists-slim}
-
--- a line is its contents and its key, the = sign and the LF
-line-length : (key content : List ℕ) → length (lineOf key content) ≡ length key + (length content + 2)
-unfolding lineOf
-line-length key content = simp length-append (omega arith)
 
 -- the lines of an answer, where its sets take so many bytes and there are at most 128 rules
 answer-length : (a : Answer) (sets : List ℕ) (rules : ℕ → List ℕ)

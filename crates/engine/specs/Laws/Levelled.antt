@@ -1,21 +1,25 @@
 -- Which levels are used makes no difference, so they fit: the same sets clear, and every answer but Fire's is the same.
 use Prim.Native.Nat.{ℕ}
-use mathlib.Core.Bool.{Bool}
+use mathlib.Core.Bool.{Bool, true}
 use mathlib.Core.List.{List}
 use mathlib.Core.Logic.{_↔_}
-use mathlib.Core.Path.{_≡_, refl}
-use Rattle.mask.specs.Laws.Tests.{same, is-true}
+use mathlib.Core.Path.{_≡_, refl, ap}
+use lib.Dec.{T}
+use Rattle.mask.specs.Laws.Tests.{same, is-true, parts}
 use Rattle.policy.specs.declared.Policy.{Policy}
 use Rattle.policy.specs.declared.Query.{Query}
 use Rattle.policy.specs.Record.{withLevels}
-use Rattle.policy.specs.Questions.{inRange, listsRise, levelsFit, weightsFit, queryInRange, questions, Accepted}
-use Rattle.policy.specs.Laws.{Answers, accepted}
+use Rattle.policy.specs.Questions.{othersInRange, inRange, listsRise, levelsFit, weightsFit, queryInRange, questions, Accepted}
+use Rattle.policy.specs.Laws.{Answers, answers, answered-with, accepted, firstNo-zero}
 use Rattle.model.specs.World.{worldOf}
 use Rattle.model.specs.Derivation.{Derivable}
 use Rattle.model.specs.Laws.Model.{same-model}
+use Rattle.engine.specs.declared.Levelling.{Levelling}
 use Rattle.engine.specs.Sets.{costOf}
 use Rattle.engine.specs.Calls.{offerInRange, offerQuestions, listQuestions, enough, clears, slimSets, judgeOf, chooseOf}
-use Rattle.engine.specs.Calls.{listOf, listAfter}
+use Rattle.engine.specs.Calls.{checkOf, listOf, listAfter}
+use Rattle.engine.specs.Levels.{foundLevels}
+use Rattle.engine.specs.Laws.Levels.{others-range, lowest-small, found-lowest, finds-levels}
 use Rattle.engine.specs.Laws.Alike.{slim-sets-alike, answer-alike}
 use Rattle.engine.specs.Laws.Decide.{enough-derivable}
 
@@ -93,3 +97,28 @@ module _ (p : Policy) (level : List ℕ) (q : Query) (ok : Accepted p q) (fit : 
     list = list-same;
     after = after-same;
   }
+
+-- for a policy whose questions are answered yes levels are found
+pub found-for : (p : Policy) {rest : Bool} → Answers p rest → foundLevels p .refusal ≡ 0
+unfolding inRange
+found-for p known =
+    let range = known .range in
+    let others : T (othersInRange p) = search parts in
+    let small = lowest-small p (others-range p others) (p .level) (search parts) (known .levels) in
+    ap (λ (r : Levelling). r .refusal)
+    (found-lowest p (is-true (othersInRange p) others) (is-true (listsRise p) (known .rise)) (is-true _ small))
+
+-- with them in place of its own it is accepted, and answered alike
+module _ (p : Policy) (q : Query) (ok : Accepted p q) where
+  abbrev pub found : Policy
+  found = withLevels p (foundLevels p .level)
+
+  pub found-accepted : Accepted found q
+  unfolding Accepted checkOf queryInRange
+  found-accepted =
+      let known = accepted p q ok in
+      let check = finds-levels p .found (found-for p known) .accepted (known .weights) in
+      firstNo-zero (questions found (queryInRange p q)) (answered-with (answers found true check) (queryInRange p q) (known .given))
+
+  pub found-alike : SameAnswers p found q
+  found-alike = same-answers p (foundLevels p .level) q ok found-accepted

@@ -118,6 +118,7 @@ module _ (p : Policy) where
 
     is-lowest : T (othersInRange p) → T (listsRise p) → T (small p (lowest p)) → Lowest p (lowest p)
     is-lowest others rise t = record {
+      places = reached-lowest .long;
       fit = lowest-fits t;
       range = small-each (lowest p) reached-lowest t;
       least = reached-lowest .below;

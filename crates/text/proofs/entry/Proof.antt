@@ -4,7 +4,7 @@ use mathlib.Core.List.{_++_}
 use borrow.Author.Needs.{needs}
 use Rattle.reader.specs.Text.{decimal}
 use Rattle.text.specs.Laws.Putting.{both, same-text}
-use Rattle.text.specs.Laws.Numbers.{comma-first, comma-other}
+use Rattle.text.specs.Laws.Entries.{comma-first, comma-other}
 use Rattle.text.proofs.entry.Statement.{statement}
 use Rattle.text.proofs.entry.Tie as tie
 

@@ -11,7 +11,7 @@ use Rattle.reader.specs.Text.{decimal}
 use Rattle.reader.specs.Written.{commas, joined}
 use Rattle.text.specs.Put.{Puts, comma}
 use Rattle.text.specs.Laws.Putting.{nothing, same-length, same-text}
-use Rattle.text.specs.Laws.Numbers.{one-entry}
+use Rattle.text.specs.Laws.Entries.{one-entry}
 use Rattle.clear.proofs.results.put_rules.Statement.{statement}
 use Rattle.clear.proofs.results.put_rules.Tie as tie
 

@@ -9,7 +9,7 @@ use Rattle.mask.proofs.Every.{take-min}
 use Rattle.reader.specs.Written.{commas, joined}
 use Rattle.text.specs.Put.{Puts}
 use Rattle.text.specs.Laws.Putting.{nothing, same-length, same-text}
-use Rattle.text.specs.Laws.Numbers.{one-entry}
+use Rattle.text.specs.Laws.Entries.{one-entry}
 use Rattle.clear.proofs.results.put_sets.Statement.{statement}
 use Rattle.clear.proofs.results.put_sets.Tie as tie
 

@@ -1,16 +1,13 @@
--- Lists of numbers with commas between: put entry by entry, and how long they are.
-use Prim.Native.Nat.{ℕ, zero, suc, _+_, _*_, _/_, _≤_, _<_}
+-- What is put of each entry of a list, entry by entry: texts one after the other, or numbers with commas between.
+use Prim.Native.Nat.{ℕ, zero, suc, _+_, _<_}
 use mathlib.Core.Path.{_≡_, refl, sym, _∙_, ap}
-use mathlib.Core.List.{List, [], _∷_, _++_, map, append-assoc, map-append}
-use native.Mathlib.Decide.{decLt}
+use mathlib.Core.List.{List, [], _∷_, _++_, map, append-assoc, append-nil, map-append}
 use native.Mathlib.Numerals.{add-one}
 use native.Mathlib.Omega.{arith}
-use lib.ListN.{length, take, getD, length-append}
+use lib.ListN.{length, take, getD}
 use lib.Seq.{take-suc, length-take-le}
-use Rattle.reader.specs.Text.{ascii, decimal, decimalBy}
-use Rattle.reader.specs.Written.{joined, commas}
-use Rattle.reader.specs.Laws.All.{All, all-head, all-tail}
-use Rattle.reader.specs.Laws.Numbers.{decimalBy-length, one-digit, more-digits}
+use Rattle.reader.specs.Text.{ascii, decimal}
+use Rattle.reader.specs.Written.{joined, commas, each}
 use Rattle.text.specs.Put.{Puts, comma}
 use Rattle.text.specs.Laws.Putting.{both, same-text}
 
@@ -46,26 +43,12 @@ pub one-entry : (xs : List ℕ) {before mid after : List ℕ} {at end last i : �
     → Puts mid end (comma i ++ decimal (getD xs i 0)) after last → Puts before at (commas (take (i + 1) xs)) after last
 one-entry xs {i = i} h a b = same-text (both a b) (sym (rw add-one (one-more xs i h)))
 
--- a number has at most ten digits, and one below 100,000 at most five
-digits-by : (fuel n : ℕ) → length (decimalBy fuel n) ≤ suc fuel
-unfolding decimalBy
-digits-by zero n = omega arith
-digits-by (suc fuel) n = elim (decLt n 10) [
-  | yes small ↦ rw (one-digit (suc fuel) n small) (omega arith)
-  | no large ↦ rw (more-digits fuel n (omega arith), length-append) (omega (arith, digits-by fuel (n / 10)))
-]
+-- the texts of a list, and the next behind them
+each-more : (f : ℕ → List ℕ) (xs : List ℕ) (x : ℕ) → each f (xs ++ (x ∷ [])) ≡ each f xs ++ f x
+unfolding each
+each-more f [] x = append-nil (f x)
+each-more f (y ∷ xs) x = rw (each-more f xs x) (sym (append-assoc (f y) (each f xs) (f x)))
 
-pub ten-digits : (n : ℕ) → length (decimal n) ≤ 10
-unfolding decimal
-ten-digits n = digits-by 9 n
-
-pub five-digits : (n : ℕ) → n < 100000 → length (decimal n) ≤ 5
-unfolding decimal
-five-digits n h = decimalBy-length 9 4 n (omega arith)
-
--- a list of numbers of at most b digits each
-pub commas-length : (b : ℕ) (ds : List ℕ) → All (λ d. length (decimal d) ≤ b) ds → length (commas ds) ≤ suc b * length ds
-unfolding commas joined
-commas-length b [] h = omega arith
-commas-length b (d ∷ []) h = omega (arith, all-head h)
-commas-length b (d ∷ (e ∷ ds)) h = simp length-append (omega (arith, all-head h, commas-length b (e ∷ ds) (all-tail h)))
+pub one-text : (f : ℕ → List ℕ) (xs : List ℕ) {before mid after : List ℕ} {at end last i : ℕ} → i < length xs
+    → Puts before at (each f (take i xs)) mid end → Puts mid end (f (getD xs i 0)) after last → Puts before at (each f (take (i + 1) xs)) after last
+one-text f xs {i = i} h a b = same-text (both a b) (sym (rw (add-one, take-suc xs i 0 h) (each-more f (take i xs) (getD xs i 0))))

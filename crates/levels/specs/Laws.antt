@@ -1,0 +1,2 @@
+-- Laws of the program's text.
+pub mod Fits

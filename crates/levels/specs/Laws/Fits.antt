@@ -1,0 +1,45 @@
+-- The text for every file fits the 4,096 bytes of the program's buffer.
+use Prim.Native.Nat.{ℕ, _≤_}
+use mathlib.Core.List.{List}
+use mathlib.Core.Path.{_≡_}
+use native.Mathlib.Decide.{ℕ-discrete}
+use native.Mathlib.Omega.{arith}
+use lib.ListN.{length, take, length-take}
+use Rattle.policy.specs.declared.Policy.{Policy}
+use Rattle.engine.specs.Calls.{refusedOr}
+use Rattle.engine.specs.Levels.{foundLevels}
+use Rattle.engine.specs.Laws.Levels.{finds-levels}
+use Rattle.engine.specs.Laws.Refusals.{answered, refused}
+use Rattle.reader.specs.Written.{levelText, each}
+use Rattle.reader.specs.File.{draftOf}
+use Rattle.text.specs.Laws.Lengths.{ten-digits, line-length, each-length}
+use Rattle.levels.specs.Printed.{refusedText, levelsText, textOf}
+
+refused-fits : (n : ℕ) → length (refusedText n) ≤ 4096
+unfolding refusedText
+refused-fits n = rw line-length (omega (arith, ten-digits n))
+
+level-length : (l : ℕ) → length (levelText l) ≤ 17
+unfolding levelText
+level-length l = rw line-length (omega (arith, ten-digits l))
+
+-- a refusal, or a text that fits where there is none
+either-fits : (n : ℕ) (text : List ℕ) → (n ≡ 0 → length text ≤ 4096) → length (refusedOr n refusedText text) ≤ 4096
+either-fits n text fits = elim (ℕ-discrete n 0) [
+  | yes none ↦ rw (answered n refusedText text none) (fits none)
+  | no some ↦ rw (refused n refusedText text some) (refused-fits n)
+]
+
+levels-fit : (p : Policy) → length (levelsText p) ≤ 4096
+unfolding levelsText
+levels-fit p = either-fits (foundLevels p .refusal) (each levelText (take (p .decisions) (foundLevels p .level))) (λ none.
+    omega (
+      arith,
+      each-length levelText 17 level-length (take (p .decisions) (foundLevels p .level)),
+      length-take (p .decisions) (foundLevels p .level),
+      finds-levels p .found none .places,
+    ))
+
+pub text-fits : (s : List ℕ) → length (textOf s) ≤ 4096
+unfolding textOf
+text-fits s = either-fits (draftOf s .refusal) (levelsText (draftOf s .policy)) (λ none. levels-fit (draftOf s .policy))

@@ -1,0 +1,21 @@
+-- The text that the program writes for a file: a line for each level found, or the refusal.
+use Prim.Native.Nat.{ℕ}
+use mathlib.Core.List.{List}
+use lib.ListN.{take}
+use Rattle.policy.specs.declared.Policy.{Policy}
+use Rattle.engine.specs.Calls.{refusedOr}
+use Rattle.engine.specs.Levels.{foundLevels}
+use Rattle.reader.specs.Text.{ascii, decimal}
+use Rattle.reader.specs.Written.{lineOf, each, levelText}
+use Rattle.reader.specs.File.{draftOf}
+
+unfoldable pub refusedText : ℕ → List ℕ
+refusedText n = lineOf (ascii "refused") (decimal n)
+
+-- the levels found for a policy
+unfoldable pub levelsText : Policy → List ℕ
+levelsText p = refusedOr (foundLevels p .refusal) refusedText (each levelText (take (p .decisions) (foundLevels p .level)))
+
+-- for the policy that a file drafts
+unfoldable pub textOf : List ℕ → List ℕ
+textOf s = refusedOr (draftOf s .refusal) refusedText (levelsText (draftOf s .policy))
