@@ -1,11 +1,11 @@
 //! Runs the files of a seed through a program and through the engine here, and compares what they print.
 
-use crate::generate::file;
+use crate::generate::{file, levels_file};
+use crate::levels::{is_lowest, levels, lowest, MOST_TRIED};
 use crate::probe::probe;
-use crate::reader::read;
+use crate::reader::{read, read_lines};
 use crate::run::run;
 use std::collections::BTreeMap;
-use std::fmt::Write as _;
 use std::io::Write as _;
 use std::path::Path;
 use std::process::{Command, Stdio};
@@ -13,32 +13,35 @@ use std::{fs, io};
 
 const MOST_DIFFERENCES: usize = 10;
 
-/// The differences of a run, and how often each kind of answer came.
+/// The differences of a run over the files of a seed. Each part of the run prints a line on the files that it took.
 pub struct Comparison {
     seed: u64,
     differences: usize,
-    files: u64,
-    answers: BTreeMap<String, u64>,
-    queries: usize,
-    none: usize,
-    probed: usize,
 }
+
+/// How many files were refused by each number, and by none.
+#[derive(Default)]
+struct Tally(BTreeMap<String, u64>);
 
 impl Comparison {
     pub fn new(seed: u64) -> Self {
-        Comparison { seed, differences: 0, files: 0, answers: BTreeMap::new(), queries: 0, none: 0, probed: 0 }
+        Comparison { seed, differences: 0 }
     }
 
     /// The first files of the seed, by what `clear` prints.
     pub fn clear(&mut self, program: &str, count: u64) -> io::Result<()> {
+        let (mut tally, mut queries, mut none) = (Tally::default(), 0, 0);
         for number in 0..count {
             let input = file(self.seed, number);
             let due = run(&input);
-            self.count(&due);
-            if self.differs(program, number, &input, &due)? {
+            tally.count(&due);
+            queries += due.matches("want=").count();
+            none += due.matches("best=none").count();
+            if self.differs("", number, &input, &output(program, &[], &input)?, &due)? {
                 break;
             }
         }
+        self.tell(&format!("clear: {}, {queries} queries, {none} with none", tally.text()));
         Ok(())
     }
 
@@ -49,54 +52,129 @@ impl Comparison {
             Ok((policy, queries)) => policy.actions.len() <= 9 && queries.len() <= 8,
             Err(_) => number % 5 == 0,
         };
+        let mut tally = Tally::default();
         for number in (0..).filter(meant).take(count as usize) {
             let input = file(seed, number);
-            self.probed += 1;
-            if self.differs(program, number, &input, &probe(&input))? {
+            let due = probe(&input);
+            tally.count(&due);
+            if self.differs("", number, &input, &output(program, &[], &input)?, &due)? {
                 break;
             }
         }
+        self.tell(&format!("probe: {}", tally.text()));
         Ok(())
     }
 
-    pub fn is_clean(&self) -> bool {
-        self.differences == 0
-    }
-
-    fn count(&mut self, due: &str) {
-        self.files += 1;
-        let refused = due.strip_prefix("refused=").map(str::trim_end);
-        *self.answers.entry(refused.unwrap_or("0").to_string()).or_default() += 1;
-        self.queries += due.matches("want=").count();
-        self.none += due.matches("best=none").count();
-    }
-
-    pub fn summary(&self) -> String {
-        let mut text = format!("compare: seed {}: {} files, {} differences;", self.seed, self.files, self.differences);
-        for (number, count) in &self.answers {
-            match number.as_str() {
-                "0" => write!(text, " {count} accepted,"),
-                _ => write!(text, " {count} refused by {number},"),
+    /// The first files for the levels, by what `levels` prints. Where there are few decisions, each assignment of
+    /// levels is tried to see that the engine here is right.
+    pub fn levels(&mut self, program: &str, count: u64) -> io::Result<()> {
+        let (mut tally, mut tried) = (Tally::default(), 0);
+        for number in 0..count {
+            let input = levels_file(self.seed, number);
+            match read_lines(&input) {
+                Ok((policy, _)) if policy.levels.len() <= MOST_TRIED => {
+                    assert!(is_lowest(&policy, &lowest(&policy)), "file {number} for the levels has others");
+                    tried += 1;
+                }
+                _ => {}
             }
-            .expect("text");
+            let due = levels(&input);
+            tally.count(&due);
+            if self.differs("levels-", number, &input, &output(program, &[], &input)?, &due)? {
+                break;
+            }
         }
-        write!(text, " {} queries, {} with none, {} files probed", self.queries, self.none, self.probed).expect("text");
-        text
+        self.tell(&format!("levels: {}, {tried} with each assignment tried", tally.text()));
+        Ok(())
     }
 
-    /// Compares one file, tells of a difference and keeps the file. True when there were too many to go on.
-    fn differs(&mut self, program: &str, number: u64, input: &[u8], due: &str) -> io::Result<bool> {
-        let printed = output(program, &[], input)?;
+    /// The first files for the levels that have levels, queries and few actions, mended: the levels that the one
+    /// program prints are put in, and the other program works the file. It is not refused by 5. Where the file was
+    /// accepted before, the answers are the same, except that other rules may have fired.
+    pub fn mended(&mut self, program: &str, clear: &str, count: u64) -> io::Result<()> {
+        let seed = self.seed;
+        let meant = |number: &u64| match read_lines(&levels_file(seed, *number)) {
+            Ok((policy, queries)) => {
+                lowest(&policy).is_ok() && policy.actions.len() <= 8 && (1..=8).contains(&queries.len())
+            }
+            Err(_) => false,
+        };
+        let (mut tally, mut compared) = (Tally::default(), 0);
+        for number in (0..).filter(meant).take(count as usize) {
+            let input = levels_file(seed, number);
+            let due = run(&with_levels(&input, &levels(&input)));
+            assert!(!due.starts_with("refused=") || due == "refused=6\n", "file {number} for the levels is not mended");
+            tally.count(&due);
+            let found = String::from_utf8_lossy(&output(program, &[], &input)?).into_owned();
+            let mended = with_levels(&input, &found);
+            let mut stop = self.differs("mended-", number, &mended, &output(clear, &[], &mended)?, &due)?;
+            let before = String::from_utf8_lossy(&output(clear, &[], &input)?).into_owned();
+            if !before.starts_with("refused=") {
+                compared += 1;
+                stop = self.differs("levels-", number, &input, but_fired(&before).as_bytes(), &but_fired(&due))?;
+            }
+            if stop {
+                break;
+            }
+        }
+        self.tell(&format!("mended: {}, {compared} accepted before", tally.text()));
+        Ok(())
+    }
+
+    /// Prints the number of differences, and returns it.
+    pub fn end(&self) -> usize {
+        self.tell(&format!("{} differences", self.differences));
+        self.differences
+    }
+
+    fn tell(&self, text: &str) {
+        println!("compare: seed {}, {text}", self.seed);
+    }
+
+    /// Tells of a difference and keeps the file. True when there were too many to go on.
+    fn differs(&mut self, kind: &str, number: u64, input: &[u8], printed: &[u8], due: &str) -> io::Result<bool> {
         if printed != due.as_bytes() {
             self.differences += 1;
             let folder = Path::new(env!("CARGO_MANIFEST_DIR")).join("differences");
-            let name = format!("{}-{number}.policy", self.seed);
+            let name = format!("{kind}{}-{number}.policy", self.seed);
             fs::create_dir_all(&folder)?;
             fs::write(folder.join(&name), input)?;
-            println!("compare/differences/{name}: {}", first_difference(&printed, due));
+            println!("compare/differences/{name}: {}", first_difference(printed, due));
         }
         Ok(self.differences >= MOST_DIFFERENCES)
     }
+}
+
+impl Tally {
+    fn count(&mut self, due: &str) {
+        let refused = due.strip_prefix("refused=").map(str::trim_end);
+        *self.0.entry(refused.unwrap_or("0").to_string()).or_default() += 1;
+    }
+
+    fn text(&self) -> String {
+        let mut text = format!("{} files", self.0.values().sum::<u64>());
+        for (number, count) in &self.0 {
+            text += &match number.as_str() {
+                "0" => format!(", {count} accepted"),
+                _ => format!(", {count} refused by {number}"),
+            };
+        }
+        text
+    }
+}
+
+/// The file with its level lines replaced.
+fn with_levels(input: &[u8], levels: &str) -> Vec<u8> {
+    let input = String::from_utf8_lossy(input);
+    let lines = input.split_inclusive('\n').map(|line| if line.starts_with("level=") { "" } else { line });
+    let mut lines: Vec<&str> = lines.collect();
+    lines[2] = levels;
+    lines.concat().into_bytes()
+}
+
+/// The lines but those of the rules fired.
+fn but_fired(answers: &str) -> String {
+    answers.split_inclusive('\n').filter(|line| !line.starts_with("fired=")).collect()
 }
 
 fn first_difference(printed: &[u8], due: &str) -> String {

@@ -1,11 +1,12 @@
 //! The files of a seed: valid ones, ones at the edges of each question, damaged ones, random bytes, and ones about
-//! as long as a file may be. File number n of a seed is always the same.
+//! as long as a file may be; and beside them files for the levels. File number n of a seed is always the same.
 
 use crate::edges::edge;
 use crate::random::{small, Case};
 use crate::rng::Rng;
 use crate::run::commas;
 use crate::shapes::valid;
+use crate::unlevelled::unlevelled;
 
 /// Of twenty files in a row nine are valid, seven at an edge, three damaged and one of odd bytes.
 pub fn file(seed: u64, number: u64) -> Vec<u8> {
@@ -19,6 +20,18 @@ pub fn file(seed: u64, number: u64) -> Vec<u8> {
         18 => nudged(&mut rng),
         _ if round % 2 == 0 => odd_bytes(&mut rng),
         _ => long(&mut rng),
+    }
+}
+
+/// Of nine files in a row six are made for the levels, and three are those above that are not valid ones, in turn.
+pub fn levels_file(seed: u64, number: u64) -> Vec<u8> {
+    let (round, place) = (number / 9, number % 9);
+    if place < 6 {
+        let mut rng = Rng::new(!seed, number);
+        text(&to_lines(&unlevelled(&mut rng, 6 * round + place)))
+    } else {
+        let index = 3 * round + place - 6;
+        file(seed, 20 * (index / 11) + 9 + index % 11)
     }
 }
 

@@ -1,10 +1,11 @@
-//! An engine outside the proofs, written from document 01 and run against the proved one.
+//! An engine outside the proofs, written from the documents and run against the proved one.
 
 mod bench;
 mod compare;
 mod edges;
 mod engine;
 mod generate;
+mod levels;
 mod policy;
 mod probe;
 mod random;
@@ -12,6 +13,7 @@ mod reader;
 mod rng;
 mod run;
 mod shapes;
+mod unlevelled;
 
 use compare::Comparison;
 use std::io::{self, Read, Write};
@@ -19,8 +21,11 @@ use std::process::ExitCode;
 
 const USAGE: &str = "usage: compare run                    what clear prints for standard input
        compare probe                  what probe prints for it
+       compare levels                 what levels prints for it
        compare make SEED N            file number N of a seed
-       compare compare SEED COUNT CLEAR [PROBE PROBE-COUNT]
+       compare make-levels SEED N     file number N of a seed among those for the levels
+       compare compare SEED PART ...  each part one of: clear CLEAR COUNT, probe PROBE COUNT,
+                                      levels LEVELS COUNT, mended LEVELS CLEAR COUNT
        compare bench CLEAR";
 
 fn main() -> ExitCode {
@@ -41,22 +46,47 @@ fn work(arguments: &[&str]) -> io::Result<bool> {
     match *arguments {
         ["run"] => io::stdout().write_all(run::run(&input()?).as_bytes())?,
         ["probe"] => io::stdout().write_all(probe::probe(&input()?).as_bytes())?,
+        ["levels"] => io::stdout().write_all(levels::levels(&input()?).as_bytes())?,
         ["make", seed, number] => {
             io::stdout().write_all(&generate::file(parse(seed)?, parse(number)?))?;
         }
-        ["compare", seed, count, clear, ref probe @ ..] if [0, 2].contains(&probe.len()) => {
+        ["make-levels", seed, number] => {
+            io::stdout().write_all(&generate::levels_file(parse(seed)?, parse(number)?))?;
+        }
+        ["compare", seed, ref parts @ ..] => {
             let mut comparison = Comparison::new(parse(seed)?);
-            comparison.clear(clear, parse(count)?)?;
-            if let [program, count] = *probe {
-                comparison.probe(program, parse(count)?)?;
-            }
-            println!("{}", comparison.summary());
-            return Ok(comparison.is_clean());
+            compare_parts(&mut comparison, parts)?;
+            return Ok(comparison.end() == 0);
         }
         ["bench", clear] => bench::bench(clear)?,
-        _ => return Err(io::Error::new(io::ErrorKind::InvalidInput, USAGE)),
+        _ => return Err(usage()),
     }
     Ok(true)
+}
+
+fn compare_parts(comparison: &mut Comparison, mut parts: &[&str]) -> io::Result<()> {
+    while !parts.is_empty() {
+        parts = match *parts {
+            ["clear", clear, count, ref rest @ ..] => {
+                comparison.clear(clear, parse(count)?)?;
+                rest
+            }
+            ["probe", probe, count, ref rest @ ..] => {
+                comparison.probe(probe, parse(count)?)?;
+                rest
+            }
+            ["levels", levels, count, ref rest @ ..] => {
+                comparison.levels(levels, parse(count)?)?;
+                rest
+            }
+            ["mended", levels, clear, count, ref rest @ ..] => {
+                comparison.mended(levels, clear, parse(count)?)?;
+                rest
+            }
+            _ => return Err(usage()),
+        };
+    }
+    Ok(())
 }
 
 fn input() -> io::Result<Vec<u8>> {
@@ -66,5 +96,9 @@ fn input() -> io::Result<Vec<u8>> {
 }
 
 fn parse(text: &str) -> io::Result<u64> {
-    text.parse().map_err(|_| io::Error::new(io::ErrorKind::InvalidInput, USAGE))
+    text.parse().map_err(|_| usage())
+}
+
+fn usage() -> io::Error {
+    io::Error::new(io::ErrorKind::InvalidInput, USAGE)
 }

@@ -66,11 +66,15 @@ impl Policy {
 
     /// Question 3, to all that the record holds.
     pub fn in_range(&self) -> bool {
+        self.in_range_but_levels() && self.levels.iter().all(|&level| level <= TOP_LEVEL)
+    }
+
+    /// Question 3, with the levels left out.
+    pub fn in_range_but_levels(&self) -> bool {
         let list = |list: &[u32]| list.len() <= MOST_LISTED && list.iter().all(|&d| self.is_decision(d));
         (1..=MOST_DECISIONS).contains(&self.levels.len())
             && self.actions.len() <= MOST_ACTIONS
             && self.rules.len() <= MOST_RULES
-            && self.levels.iter().all(|&level| level <= TOP_LEVEL)
             && self.actions.iter().all(|a| (1..=TOP_WEIGHT).contains(&a.weight) && self.is_mask(a.also))
             && self
                 .rules
@@ -79,12 +83,12 @@ impl Policy {
     }
 
     /// Question 4.
-    fn lists_rise(&self) -> bool {
+    pub fn lists_rise(&self) -> bool {
         self.rules.iter().all(|rule| rises(&rule.ifs) && rises(&rule.unless))
     }
 
     /// Question 5.
-    fn levels_fit(&self) -> bool {
+    pub fn levels_fit(&self) -> bool {
         self.rules.iter().all(|rule| {
             let level = self.level(rule.head);
             rule.ifs.iter().all(|&d| self.level(d) <= level) && rule.unless.iter().all(|&d| self.level(d) < level)

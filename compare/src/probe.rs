@@ -2,7 +2,8 @@
 //! length, to queries out of range and to spoilt policies.
 
 use crate::engine::{check, Engine};
-use crate::policy::{Action, Policy, Query, Refusal, Rule};
+use crate::levels::lowest;
+use crate::policy::{Action, Policy, Query, Refusal, Rule, MOST_DECISIONS};
 use crate::reader;
 use crate::run::commas;
 
@@ -16,7 +17,7 @@ pub fn probe(input: &[u8]) -> String {
     if policy.actions.len() > MOST_ACTIONS {
         return "too many actions\n".to_string();
     }
-    let mut text = format!("check={}\n", number(check(&policy)));
+    let mut text = format!("check={}\n{}\n", number(check(&policy)), levels(&policy));
     let mut engine = Engine::new(&policy);
     for query in &queries {
         text += &format!("query want={} done={}\n", query.want, query.done);
@@ -31,8 +32,8 @@ pub fn probe(input: &[u8]) -> String {
         for (name, spoilt) in spoilt(&policy) {
             let mut engine = Engine::new(&spoilt);
             let (judge, choose) = (judge(&mut engine, query, 0), choose(&mut engine, query));
-            let check = number(check(&spoilt));
-            text += &format!("spoilt {name} check={check} judge {judge} choose {choose}\n");
+            let (check, levels) = (number(check(&spoilt)), levels(&spoilt));
+            text += &format!("spoilt {name} check={check} judge {judge} choose {choose} {levels}\n");
         }
     }
     text
@@ -40,6 +41,16 @@ pub fn probe(input: &[u8]) -> String {
 
 fn number(answer: Result<(), Refusal>) -> Refusal {
     answer.err().unwrap_or(0)
+}
+
+/// All 128 entries of the array; those past the decision count are 0, and all where the call is refused.
+fn levels(policy: &Policy) -> String {
+    let (refusal, mut levels) = match lowest(policy) {
+        Err(number) => (number, Vec::new()),
+        Ok(levels) => (0, levels),
+    };
+    levels.resize(MOST_DECISIONS, 0);
+    format!("levels refusal={refusal} level={}", commas(&levels))
 }
 
 /// Each mask up to the first that is out of range, and 65535.

@@ -63,6 +63,13 @@ fn number(text: &[u8]) -> Result<u32, Refusal> {
 
 /// The policy and the queries that the lines state, or the first no.
 pub fn read(input: &[u8]) -> Result<(Policy, Vec<Query>), Refusal> {
+    let (policy, queries) = read_lines(input)?;
+    policy.ordered()?;
+    Ok((policy, queries))
+}
+
+/// The same without questions 5 and 6.
+pub fn read_lines(input: &[u8]) -> Result<(Policy, Vec<Query>), Refusal> {
     ask(1, input.len() <= MOST_BYTES)?;
     let mut lines = Lines(input);
     let decisions = lines.count("decisions", 1, MOST_DECISIONS)?;
@@ -93,6 +100,5 @@ pub fn read(input: &[u8]) -> Result<(Policy, Vec<Query>), Refusal> {
         queries.push(Query { want: lines.number("want", 0, top_decision)?, done: lines.number("done", 0, top_mask)? });
     }
     ask(2, lines.0.is_empty())?;
-    policy.ordered()?;
     Ok((policy, queries))
 }
