@@ -1,4 +1,4 @@
-//! Hard files, each timed in one run through `clear` and through the engine here, as a Markdown table.
+//! Hard files, each timed in one run through `clear` or `levels` and through the engine here, as Markdown tables.
 
 use crate::compare::output;
 use crate::generate::{text, to_lines};
@@ -13,25 +13,32 @@ use std::time::{Duration, Instant};
 const LONG: Duration = Duration::from_secs(4);
 const REPEATS: usize = 5;
 
-pub fn bench(clear: &str) -> io::Result<()> {
-    let own = std::env::current_exe()?;
-    let own = own.to_str().expect("a path that is text");
-    println!("| file | clear, ms | outside engine, ms | ratio |");
-    println!("|---|--:|--:|--:|");
-    for (name, case) in cases() {
-        let file = text(&to_lines(&case));
-        let (time, printed) = best_time(clear, &[], &file)?;
-        let (own_time, due) = best_time(own, &["run"], &file)?;
-        let note = if printed == due { "" } else { " (and they differ)" };
-        let [time, own_time] = [time, own_time].map(|time| 1000.0 * time.as_secs_f64());
-        println!("| {name}{note} | {time:.1} | {own_time:.1} | {:.2} |", time / own_time);
-    }
-    println!();
+pub fn bench(clear: &str, levels: &str) -> io::Result<()> {
+    table("clear", clear, "run", cases())?;
+    table("levels", levels, "levels", unlevelled())?;
     println!("Each time is that of one run of the program, process start included, the best of up to {REPEATS}.");
-    println!("A ratio below 1 means that clear is the quicker one.");
+    println!("A ratio below 1 means that the outside engine is the slower one.");
     println!(
         "The outside engine keeps the model of each world for all queries of a file; clear works each query afresh."
     );
+    Ok(())
+}
+
+/// The times of a program and of the engine here, told to print the same.
+fn table(name: &str, program: &str, command: &str, cases: Vec<(&str, Case)>) -> io::Result<()> {
+    let own = std::env::current_exe()?;
+    let own = own.to_str().expect("a path that is text");
+    println!("| file | {name}, ms | outside engine, ms | ratio |");
+    println!("|---|--:|--:|--:|");
+    for (what, case) in cases {
+        let file = text(&to_lines(&case));
+        let (time, printed) = best_time(program, &[], &file)?;
+        let (own_time, due) = best_time(own, &[command], &file)?;
+        let note = if printed == due { "" } else { " (and they differ)" };
+        let [time, own_time] = [time, own_time].map(|time| 1000.0 * time.as_secs_f64());
+        println!("| {what}{note} | {time:.1} | {own_time:.1} | {:.2} |", time / own_time);
+    }
+    println!();
     Ok(())
 }
 
@@ -73,6 +80,16 @@ fn cases() -> Vec<(&'static str, Case)> {
     ]
 }
 
+fn unlevelled() -> Vec<(&'static str, Case)> {
+    let mut rng = Rng::new(0, 0);
+    let size = Size { decisions: 128, actions: 16, rules: 256, queries: 0, top_level: 15 };
+    vec![
+        ("4 decisions, 4 rules", little()),
+        ("256 rules, 16 levels with unless", random(&mut rng, &size)),
+        ("circle of 128 against file order, with one unless", circle()),
+    ]
+}
+
 fn actions(count: usize) -> Vec<Action> {
     vec![Action { kind: 'p', weight: 1, also: 0 }; count]
 }
@@ -96,6 +113,14 @@ fn chain() -> Case {
     }
     policy.rules.push(Rule { head: 127, ..Rule::default() });
     Case { policy, queries: vec![Query { want: 0, done: 0 }] }
+}
+
+/// 0 if 1, 1 if 2 and so on to 127 unless 0: each round over the rules raises one level by one, up to 15 for all.
+fn circle() -> Case {
+    let mut case = chain();
+    case.policy.rules[127].unless.push(0);
+    case.queries.clear();
+    case
 }
 
 /// Random rules, and a decision on the highest level that only a circle gives.

@@ -26,7 +26,7 @@ const USAGE: &str = "usage: compare run                    what clear prints for
        compare make-levels SEED N     file number N of a seed among those for the levels
        compare compare SEED PART ...  each part one of: clear CLEAR COUNT, probe PROBE COUNT,
                                       levels LEVELS COUNT, mended LEVELS CLEAR COUNT
-       compare bench CLEAR";
+       compare bench CLEAR LEVELS";
 
 fn main() -> ExitCode {
     let arguments: Vec<String> = std::env::args().skip(1).collect();
@@ -58,7 +58,7 @@ fn work(arguments: &[&str]) -> io::Result<bool> {
             compare_parts(&mut comparison, parts)?;
             return Ok(comparison.end() == 0);
         }
-        ["bench", clear] => bench::bench(clear)?,
+        ["bench", clear, levels] => bench::bench(clear, levels)?,
         _ => return Err(usage()),
     }
     Ok(true)

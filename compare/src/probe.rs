@@ -120,6 +120,7 @@ fn list(engine: &mut Engine, query: &Query, length: usize) -> String {
 }
 
 /// The policy with one entry spoilt at a time, and the name of what was spoilt. A count is spoilt by more entries.
+/// Nothing is kept past a count, so `past` changes nothing.
 fn spoilt(policy: &Policy) -> Vec<(&'static str, Policy)> {
     let mut all = Vec::new();
     let mut spoil = |name, place_is_there: bool, change: &dyn Fn(&mut Policy)| {
@@ -136,6 +137,7 @@ fn spoilt(policy: &Policy) -> Vec<(&'static str, Policy)> {
     spoil("actions", true, &|p| p.actions.resize(17, none.clone()));
     spoil("rules", true, &|p| p.rules.resize(257, Rule::default()));
     spoil("level", true, &|p| p.levels[0] = 16);
+    spoil("past", policy.levels.len() < MOST_DECISIONS, &|_| ());
     spoil("weight", has_action, &|p| p.actions[0].weight = 0);
     spoil("also", has_action, &|p| p.actions[0].also = 65_535);
     spoil("head", has_rule, &|p| p.rules[0].head = p.levels.len() as u32);

@@ -1,11 +1,10 @@
 -- The loops that raise levels: what holds at each turn.
-use Prim.Native.Nat.{ℕ, suc, _+_, _-_, _≤_, _<_, max}
+use Prim.Native.Nat.{ℕ, _+_, _-_, _≤_, _<_, max}
 use mathlib.Core.Bool.{Bool, true, false}
 use mathlib.Core.List.{List}
 use mathlib.Core.Path.{_≡_, refl, sym, _∙_, ap}
 use native.Mathlib.Numerals.{add-one}
 use native.Mathlib.Omega.{arith}
-use lib.Dec.{T}
 use lib.ListN.{length, take, getD, replicate}
 use lib.Seq.{take-suc}
 use Rattle.mask.specs.Laws.Tests.{is-true, is-false, passes, getD-filled}
@@ -14,8 +13,8 @@ use Rattle.policy.specs.Record.{ruleOf, headOf, withLevels}
 use Rattle.policy.specs.Questions.{othersInRange, listsRise}
 use Rattle.policy.specs.Laws.{InRange}
 use Rattle.engine.specs.Levels.{above, asked, small, lowest, refusedLevels, foundLevels}
-use Rattle.engine.specs.Laws.Raised.{above-more, total, total-small, EachSmall, Reached, Since, raise, reached-none, reached-raise, raise-small}
-use Rattle.engine.specs.Laws.Raised.{asked-below, since-raised, since-kept}
+use Rattle.engine.specs.Laws.Raised.{above-more, total, total-small, EachSmall, Reached, Since, raise, reached-none}
+use Rattle.engine.specs.Laws.Raised.{asked-below, reached-raise, raise-small, since-raised, since-kept}
 use Rattle.engine.specs.Laws.Levels.{small-each, each-small, met-fits, reached-lowest, lowest-fits, lowest-only, others-range}
 use Rattle.engine.specs.Laws.Levels.{found-nine, found-lowest}
 
@@ -26,10 +25,12 @@ pub record Over (level : List ℕ) (step own : ℕ) (at : List ℕ) (count lowes
   pub within : i ≤ count
   pub same : lowest ≡ above level step own (take i at)
 
-module _ {level : List ℕ} {step own : ℕ} {at : List ℕ} {count lowest i : ℕ} (so : Over level step own at count lowest i) (h : i < count) where
+module _ {level : List ℕ} {step own : ℕ} {at : List ℕ} {count lowest i : ℕ} (so : Over level step own at count lowest i)
+    (h : i < count) where
   -- one decision more
   over-next : above level step own (take (i + 1) at) ≡ max lowest (getD level (getD at i 0) 0 + step)
-  over-next = rw (add-one, take-suc at i 0 (omega (arith, so .long, so .few)), so .same) (above-more level step own (take i at) (getD at i 0))
+  over-next = rw (add-one, take-suc at i 0 (omega (arith, so .long, so .few)), so .same)
+      (above-more level step own (take i at) (getD at i 0))
 
   over-step : (next : ℕ) → next ≡ max lowest (getD level (getD at i 0) 0 + step) → Over level step own at count next (i + 1)
   over-step next e = record { long = so .long; few = so .few; within = omega arith; same = e ∙ sym over-next }

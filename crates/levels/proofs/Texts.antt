@@ -18,7 +18,8 @@ use Rattle.levels.specs.Laws.Fits.{text-fits}
 
 -- the text by what the calls return, a draft and the levels found for it
 textBy : Reading → Levelling → List ℕ
-textBy r f = refusedOr (r .refusal) refusedText (refusedOr (f .refusal) refusedText (each levelText (take (r .policy .decisions) (f .level))))
+textBy r f = refusedOr (r .refusal) refusedText
+    (refusedOr (f .refusal) refusedText (each levelText (take (r .policy .decisions) (f .level))))
 
 module _ (s : List ℕ) {r : Reading} (drafted : r ≡ draftOf s) where
   by-calls : (f : Levelling) → f ≡ foundLevels (r .policy) → textBy r f ≡ textOf s

@@ -27,16 +27,16 @@ pub(crate) fn judge(policy: Policy, query: Query, offered: u16) {
     }
 }
 
-// The number of a rule in 16 bits.
-fn wide(rule: u8) -> u16 {
-    rule as u16
+// A number of 8 bits in 16.
+fn wide(n: u8) -> u16 {
+    n as u16
 }
 
 // Writes the entries below the count.
-fn fired(rules: [u8; 128], count: usize) {
+fn below(at: [u8; 128], count: usize) {
     for i in 0..128 {
         if i < count {
-            entry(i, wide(rules[i]));
+            entry(i, wide(at[i]));
         }
     }
 }
@@ -60,8 +60,17 @@ pub(crate) fn fire(policy: Policy, query: Query, offered: u16) {
     keyed(b"refusal=", firing.refusal as u32);
     keyed(b" count=", firing.count as u32);
     text(b" rules=");
-    fired(rules, count);
+    below(rules, count);
     keyed(b" tail=", tail(rules, count));
+}
+
+// Writes what levels returns.
+pub(crate) fn levels(policy: Policy) {
+    let found = engine::levels(policy);
+    let level = found.level;
+    keyed(b"refusal=", found.refusal as u32);
+    text(b" level=");
+    below(level, 128);
 }
 
 // Writes what choose returns, and hands back the number of slim sets in it.

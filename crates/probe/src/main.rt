@@ -13,6 +13,8 @@ mod spoilt;
 // Writes the lines of a file.
 fn answer(policy: Policy, queries: Queries) {
     keyed(b"check=", engine::check(policy) as u32);
+    text(b"\nlevels ");
+    calls::levels(policy);
     text(b"\n");
     let query = queries.at;
     let count = held(queries.count as usize, 64);

@@ -16,10 +16,12 @@ fn line(name: &[u8], policy: Policy, query: Query) {
     calls::judge(policy, query, 0);
     text(b" choose ");
     calls::choose(policy, query);
+    text(b" levels ");
+    calls::levels(policy);
     text(b"\n");
 }
 
-// Writes the lines with a count out of range, and a level.
+// Writes the lines with a count out of range, a level, and a level past the count.
 fn numbers(policy: Policy, query: Query) {
     let mut p = policy;
     p.decisions = 129;
@@ -33,6 +35,11 @@ fn numbers(policy: Policy, query: Query) {
     let mut p = policy;
     p.level[0] = 16;
     line(b"level", p, query);
+    if policy.decisions < 128 {
+        let mut p = policy;
+        p.level[127] = 9;
+        line(b"past", p, query);
+    }
 }
 
 // Writes the lines with action 0 changed.

@@ -8,7 +8,8 @@ use Rattle.engine.proofs.levels.Statement.{statement}
 use Rattle.engine.proofs.levels.Tie as tie
 
 returns : tie.Need-returns
-returns c = levels-found _ (c .refused .ensures ∙ sym (found-three _ (tested-no (c .before .before .others-in-range .ensures) (c .before .if1 .taken))))
+returns c = levels-found _ (c .refused .ensures ∙ sym (found-three _
+    (tested-no (c .before .before .others-in-range .ensures) (c .before .if1 .taken))))
 
 returns-2 : tie.Need-returns-2
 returns-2 c = levels-found _ (c .refused2 .ensures ∙ sym (found-four _

@@ -7,12 +7,11 @@ use native.Mathlib.Nat.{le-refl, le-antisymm}
 use native.Mathlib.Decide.{decLt}
 use native.Mathlib.Omega.{arith}
 use lib.Dec.{T, leb→le, le→leb}
-use lib.ListN.{length, getD, take, replicate}
+use lib.ListN.{getD, replicate}
 use lib.Seq.{ext-getD}
-use Rattle.mask.specs.Every.{every}
 use Rattle.mask.specs.Laws.Tests.{is-true, passes, not-both, getD-filled, entry-or, entries-make}
 use Rattle.policy.specs.declared.Policy.{Policy}
-use Rattle.policy.specs.Record.{noRule, rulesOf, ruleOf, withLevels}
+use Rattle.policy.specs.Record.{noRule, withLevels}
 use Rattle.policy.specs.Questions.{firstNo, levelInRange, ruleLevelsFit, othersInRange, listsRise, levelsFit, weightsFit, questions}
 use Rattle.policy.specs.Laws.{InRange, in-range, range-with, answered-with, firstNo-zero}
 use Rattle.engine.specs.Calls.{refusedOr, checkOf}

@@ -13,8 +13,7 @@ use lib.Seq.{getD-set-same, getD-set-other, set-getD}
 use Rattle.mask.specs.Laws.Tests.{and-make, every-make, getD-filled, last-or-below}
 use Rattle.policy.specs.declared.Policy.{Policy}
 use Rattle.policy.specs.declared.Rule.{Rule}
-use Rattle.policy.specs.declared.Decisions.{Decisions}
-use Rattle.policy.specs.Record.{listed, ruleOf, headOf, ifsOf, unlessOf, withLevels}
+use Rattle.policy.specs.Record.{listed, ruleOf, headOf, withLevels}
 use Rattle.policy.specs.Questions.{levelsBelow, ruleLevelsFit}
 use Rattle.policy.specs.Laws.{InRange, levels-fit}
 use Rattle.engine.specs.Levels.{above, asked, fits, raised}
@@ -42,7 +41,8 @@ module _ (level : List ℕ) (step : ℕ) where
       (max-le h (each d (List·Memᴰ·head refl))) (λ e m. each e (List·Memᴰ·tail m))
 
   -- one decision more
-  pub above-more : (own : ℕ) (ds : List ℕ) (d : ℕ) → above level step own (ds ++ (d ∷ [])) ≡ max (above level step own ds) (getD level d 0 + step)
+  pub above-more : (own : ℕ) (ds : List ℕ) (d : ℕ)
+      → above level step own (ds ++ (d ∷ [])) ≡ max (above level step own ds) (getD level d 0 + step)
   unfolding above
   above-more own [] d = refl
   above-more own (e ∷ ds) d = above-more (max own (getD level e 0 + step)) ds d
@@ -177,7 +177,8 @@ module _ (p : Policy) where
   met-more : (k : ℕ) (level : List ℕ) → T (ruleLevelsFit level (ruleOf p k)) → Met k level → Met (suc k) level
   met-more k level here met j l = ⊎-elim (λ (e : j ≡ k). rw e here) (met j) (last-or-below l)
 
-  module _ (range : InRange (withLevels p (replicate 128 0))) (k : ℕ) (h : k < p .rules) (before : List ℕ) {level : List ℕ} (so : Reached level) where
+  module _ (range : InRange (withLevels p (replicate 128 0))) (k : ℕ) (h : k < p .rules) (before : List ℕ) {level : List ℕ}
+      (so : Reached level) where
     -- rule k raises a level
     pub since-raised : getD level (headOf p k) 0 < asked level (ruleOf p k) → (b : Bool) → Since before k level b
         → Since before (suc k) (raise k level) true

@@ -9,7 +9,8 @@ returns : tie.Need-returns
 returns c =
     let draft = c .before .before .before .before .before .before in
     whole _ _ _ _ (draft .before .before .before .pre)
-    (same-text (c .before .before .put-refusal .ensures) (draft-refused _ (draft .draft .ensures) (c .before .before .before .before .if1 .taken)))
+    (same-text (c .before .before .put-refusal .ensures)
+    (draft-refused _ (draft .draft .ensures) (c .before .before .before .before .if1 .taken)))
 
 returns-2 : tie.Need-returns-2
 returns-2 c =

@@ -16,6 +16,6 @@ answer-spec =
     tie.close
     (tie.spec
     Inv-loop μ-loop (λ c. search needs) (λ c κs. search needs) (λ c. search needs) (λ c κs. search needs) (λ c. search needs)
-    (λ c κs. search needs) (λ c. search needs) (λ c κs. search needs) (λ c. tt) (λ c. omega arith) (λ c. omega arith)
-    (λ c κs. search needs) (λ c. omega arith) (λ c. omega arith) (λ c. tt) (λ c. search needs) (λ c κs. search needs) (λ c. search needs)
-    (λ c. search needs))
+    (λ c κs. search needs) (λ c κs. search needs) (λ c. search needs) (λ c κs. search needs) (λ c. search needs) (λ c κs. search needs)
+    (λ c. tt) (λ c. omega arith) (λ c. omega arith) (λ c κs. search needs) (λ c. omega arith) (λ c. omega arith) (λ c. tt)
+    (λ c. search needs) (λ c κs. search needs) (λ c. search needs) (λ c. search needs))

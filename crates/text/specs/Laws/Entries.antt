@@ -50,5 +50,6 @@ each-more f [] x = append-nil (f x)
 each-more f (y ∷ xs) x = rw (each-more f xs x) (sym (append-assoc (f y) (each f xs) (f x)))
 
 pub one-text : (f : ℕ → List ℕ) (xs : List ℕ) {before mid after : List ℕ} {at end last i : ℕ} → i < length xs
-    → Puts before at (each f (take i xs)) mid end → Puts mid end (f (getD xs i 0)) after last → Puts before at (each f (take (i + 1) xs)) after last
+    → Puts before at (each f (take i xs)) mid end → Puts mid end (f (getD xs i 0)) after last
+    → Puts before at (each f (take (i + 1) xs)) after last
 one-text f xs {i = i} h a b = same-text (both a b) (sym (rw (add-one, take-suc xs i 0 h) (each-more f (take i xs) (getD xs i 0))))

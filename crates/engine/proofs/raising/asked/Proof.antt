@@ -1,6 +1,4 @@
 -- `asked` meets its contract: the if decisions are looked at first, then the unless decisions.
-use mathlib.Core.Path.{_∙_}
-use native.Mathlib.Omega.{arith}
 use borrow.Author.Needs.{needs}
 use Rattle.engine.specs.Levels.{asked}
 use Rattle.engine.proofs.raising.asked.Statement.{statement}

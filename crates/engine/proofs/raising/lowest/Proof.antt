@@ -10,7 +10,8 @@ use Rattle.policy.specs.Questions.{othersInRange}
 use Rattle.policy.specs.Laws.{RuleFits, rule-wider, InRange}
 use Rattle.engine.specs.Laws.Raised.{total}
 use Rattle.engine.specs.Laws.Levels.{others-range}
-use Rattle.engine.proofs.Rounds.{AtRound, AtTurn, round-first, turn-first, turn-raised, turn-kept, turn-refused, round-next, fewer-rounds, rounds-end}
+use Rattle.engine.proofs.Rounds.{AtRound, AtTurn, round-first, turn-first, turn-raised, turn-kept, turn-refused}
+use Rattle.engine.proofs.Rounds.{round-next, fewer-rounds, rounds-end}
 use Rattle.engine.proofs.raising.lowest.Statement.{statement}
 use Rattle.engine.proofs.raising.lowest.Tie as tie
 
