@@ -115,7 +115,7 @@ fn chain() -> Case {
     Case { policy, queries: vec![Query { want: 0, done: 0 }] }
 }
 
-/// 0 if 1, 1 if 2 and so on to 127 unless 0: each round over the rules raises one level by one, up to 15 for all.
+/// 0 if 1, 1 if 2 and so on to 127 unless 0: a round over the rules raises one level by one, or two, until all are 15.
 fn circle() -> Case {
     let mut case = chain();
     case.policy.rules[127].unless.push(0);

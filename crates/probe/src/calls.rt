@@ -27,16 +27,11 @@ pub(crate) fn judge(policy: Policy, query: Query, offered: u16) {
     }
 }
 
-// A number of 8 bits in 16.
-fn wide(n: u8) -> u16 {
-    n as u16
-}
-
 // Writes the entries below the count.
 fn below(at: [u8; 128], count: usize) {
     for i in 0..128 {
         if i < count {
-            entry(i, wide(at[i]));
+            entry(i, at[i] as u16);
         }
     }
 }

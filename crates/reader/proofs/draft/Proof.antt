@@ -1,7 +1,11 @@
 -- `reader::draft` meets its contract.
+use Prim.Native.Nat.{_<_}
 use mathlib.Core.Path.{refl}
+use native.Mathlib.Omega.{arith}
 use borrow.Author.Tests.{le-leb, lt-leb}
 use borrow.Author.Needs.{needs}
+use denote.Ref.{now}
+use lib.ListN.{length}
 use Rattle.reader.specs.File.{draft}
 use Rattle.reader.proofs.Steps.{stays, next, asked, denied}
 use Rattle.reader.proofs.Handed.{hands-refusal, hands-reading, more-follows, nothing-follows}
@@ -10,8 +14,8 @@ use Rattle.reader.proofs.draft.Tie as tie
 
 returns : tie.Need-returns
 returns c =
-    hands-refusal {a = c .refused-reading .result} (denied 1 _ refl (lt-leb _ _ (c .before .if1 .taken))) refl
-    (c .refused-reading .ensures)
+    let long : 32768 < length (now (c .before .before .before .args .s)) = omega (arith, c .before .if1 .taken) in
+    hands-refusal {a = c .refused-reading .result} (denied 1 _ refl (lt-leb _ _ long)) refl (c .refused-reading .ensures)
 
 returns-2 : tie.Need-returns-2
 returns-2 c =

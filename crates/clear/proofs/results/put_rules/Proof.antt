@@ -1,15 +1,13 @@
 -- `clear::results::put_rules` meets its contract: the first i rules are put.
 use Prim.Native.Nat.{ℕ, _-_, _≤_}
 use mathlib.Core.Path.{_≡_, _∙_, ap}
-use mathlib.Core.List.{_++_}
 use native.Mathlib.Omega.{arith}
 use borrow.Author.Needs.{needs}
 use denote.Ref.{now}
 use lib.ListN.{take, length}
 use Rattle.mask.proofs.Every.{take-min}
-use Rattle.reader.specs.Text.{decimal}
 use Rattle.reader.specs.Written.{commas, joined}
-use Rattle.text.specs.Put.{Puts, comma}
+use Rattle.text.specs.Put.{Puts}
 use Rattle.text.specs.Laws.Putting.{nothing, same-length, same-text}
 use Rattle.text.specs.Laws.Entries.{one-entry}
 use Rattle.clear.proofs.results.put_rules.Statement.{statement}
@@ -28,11 +26,10 @@ loop-holds c = let a = c .before .before .args in (omega arith, nothing (now (a 
 loop-again : tie.Need-loop-again Inv-loop μ-loop
 loop-again c =
     let e = c .before .before in
-    let l = e .before .before .before .before in
+    let l = e .before .before .before in
     let s = l .before .before .before in
     let long : length (s .args .t4) ≡ 128 = search needs in
-    let one = same-text (e .entry .ensures) (ap (λ (n : ℕ). comma (l .loop .i) ++ decimal n) (e .before .wide .ensures)) in
-    (omega arith, one-entry (s .args .t4) (omega (arith, long, l .before .held .ensures)) (l .loop .inv .1) one)
+    (omega arith, one-entry (s .args .t4) (omega (arith, long, l .before .held .ensures)) (l .loop .inv .1) (e .entry .ensures))
 
 returns : tie.Need-returns Inv-loop μ-loop
 returns c =
@@ -49,5 +46,5 @@ pub put-rules-spec : {M : Type 1} → statement M
 put-rules-spec =
     tie.close
     (tie.spec
-    Inv-loop μ-loop (λ c κs. search needs) loop-holds (λ c. omega arith) (λ c κs. search needs) (λ c κs. search needs)
+    Inv-loop μ-loop (λ c κs. search needs) loop-holds (λ c. omega arith) (λ c. search needs) (λ c κs. search needs)
     (λ c. omega arith) (λ c. omega arith) loop-again (λ c. same-length (c .before .loop .inv .1)) returns)

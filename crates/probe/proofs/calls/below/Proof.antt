@@ -15,5 +15,5 @@ pub below-spec : {M : Type 1} → statement M
 below-spec =
     tie.close
     (tie.spec
-    Inv-loop μ-loop (λ c. tt) (λ c. search needs) (λ c κs. search needs) (λ c κs. search needs) (λ c. omega arith) (λ c. omega arith)
+    Inv-loop μ-loop (λ c. tt) (λ c. search needs) (λ c. search needs) (λ c κs. search needs) (λ c. omega arith) (λ c. omega arith)
     (λ c. tt) (λ c. search needs))
