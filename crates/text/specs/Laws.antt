@@ -1,4 +1,3 @@
--- Texts put one behind the other, lists that are put entry by entry, and how long texts are.
+-- Texts put one behind the other, and lists that are put entry by entry.
 pub mod Putting
 pub mod Entries
-pub mod Lengths

@@ -18,7 +18,7 @@ use Rattle.engine.specs.Laws.Refusals.{refused}
 use Rattle.reader.specs.Text.{decimal}
 use Rattle.reader.specs.Written.{commas}
 use Rattle.reader.specs.Laws.All.{All}
-use Rattle.text.specs.Laws.Lengths.{five-digits, ten-digits, commas-length, line-length}
+use Rattle.reader.specs.Laws.Lengths.{decimal-length, ten-digits, commas-length, line-length}
 use Rattle.clear.specs.Printed.{answerText, setsListed, rulesFired, textOf}
 use Rattle.clear.specs.Laws.Listed.{lists-slim}
 
@@ -46,7 +46,7 @@ module _ (p : Policy) (q : Query) where
   sets-length ok =
       let small = pow-mono (accepted-range p q ok .actions) in
       let five : All (λ s. length (decimal s) ≤ 5) (slimSets p q) =
-      λ s m. five-digits s (omega (arith, small, among-at (slim p q) (2 ^ p .actions) s m .0)) in
+      λ s m. decimal-length 4 s (omega (arith, small, among-at (slim p q) (2 ^ p .actions) s m .0)) in
       rw (lists-slim p q ok) (omega (arith, few-slim p q ok, commas-length 5 (slimSets p q) five))
 
   rules-length : (s : ℕ) → length (rulesFired p q s) ≤ 128

@@ -1,6 +1,5 @@
 -- The places that the program lends are always enough: the list that it prints is that of the slim sets.
 use Prim.Native.Nat.{ℕ, _≤_}
-use mathlib.Core.List.{List}
 use mathlib.Core.Path.{_≡_}
 use lib.ListN.{length, drop, replicate, length-replicate}
 use lib.Seq.{take-append-seam}

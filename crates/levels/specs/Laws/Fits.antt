@@ -12,7 +12,7 @@ use Rattle.engine.specs.Laws.Levels.{finds-levels}
 use Rattle.engine.specs.Laws.Refusals.{answered, refused}
 use Rattle.reader.specs.Written.{levelText, each}
 use Rattle.reader.specs.File.{draftOf}
-use Rattle.text.specs.Laws.Lengths.{ten-digits, line-length, each-length}
+use Rattle.reader.specs.Laws.Lengths.{ten-digits, line-length, each-length}
 use Rattle.levels.specs.Printed.{refusedText, levelsText, textOf}
 
 refused-fits : (n : ℕ) → length (refusedText n) ≤ 4096
@@ -35,7 +35,7 @@ unfolding levelsText
 levels-fit p = either-fits (foundLevels p .refusal) (each levelText (take (p .decisions) (foundLevels p .level))) (λ none.
     omega (
       arith,
-      each-length levelText 17 level-length (take (p .decisions) (foundLevels p .level)),
+      each-length levelText 17 (take (p .decisions) (foundLevels p .level)) (λ l m. level-length l),
       length-take (p .decisions) (foundLevels p .level),
       finds-levels p .found none .places,
     ))

@@ -4,7 +4,7 @@ use Prim.Native.Nat.{ℕ, _<_}
 use mathlib.Core.Bool.{true}
 use mathlib.Core.List.{List}
 use mathlib.Core.Path.{_≡_}
-use Rattle.mask.specs.Laws.Tests.{is-true, passes}
+use Rattle.mask.specs.Laws.Tests.{is-true}
 use Rattle.policy.specs.Record.{withLevels}
 use Rattle.policy.specs.Questions.{weightsFit}
 use Rattle.engine.specs.declared.Levelling.{Levelling}
@@ -15,8 +15,8 @@ use Rattle.reader.specs.declared.Reading.{Reading}
 use Rattle.reader.specs.Written.{fileOf}
 use Rattle.reader.specs.File.{draftOf, readOf}
 use Rattle.reader.specs.Claim.{AcceptedFile, queryOf}
-use Rattle.reader.specs.Laws.Files.{passed, draft-of-accepted}
-use Rattle.reader.specs.Laws.States.{draft-states, states, query-accepted}
+use Rattle.reader.specs.Laws.Files.{draft-of-accepted}
+use Rattle.reader.specs.Laws.States.{states, stated-answers, query-accepted}
 use Rattle.reader.specs.Laws.Levels.{levels-put}
 
 module _ (s : List ℕ) where
@@ -45,16 +45,7 @@ module _ (s : List ℕ) where
       (is-true _ (low .fit)) weights
 
   finds : AcceptedFile s → found .refusal ≡ 0
-  finds ok =
-      let known = passed s ok in
-      let draft = draft-states s (known .draft) in
-      found-for (draftOf s .policy) {rest = true} (record {
-        range = passes _ (draft .range);
-        given = tt;
-        rise = passes _ (draft .rise);
-        levels = known .levels;
-        weights = known .weights;
-      })
+  finds ok = rw (draft-of-accepted s ok) (found-for (readOf s .policy) (stated-answers (states s ok) true tt))
 
   alike : AcceptedFile s → (i : ℕ) → i < readOf s .queries .count
       → SameAnswers (readOf s .policy) (mended .policy) (queryOf (readOf s) i)

@@ -1,8 +1,8 @@
 -- The longest file: no reading's text is longer than 27,294 bytes.
-use Prim.Native.Nat.{ℕ, suc, _+_, _*_, _-_, _^_, _≤_, _<_}
+use Prim.Native.Nat.{ℕ, _^_, _≤_, _<_}
 use native.Mathlib.Omega.{arith}
 use mathlib.Core.Path.{_≡_, refl}
-use mathlib.Core.List.{List, [], _∷_}
+use mathlib.Core.List.{List}
 use lib.ListN.{length, length-append}
 use lib.Pow.{pow-mono}
 use Rattle.policy.specs.declared.Rule.{Rule}
@@ -13,45 +13,19 @@ use Rattle.policy.specs.declared.Kind.the-variants.{Provision, Obligation}
 use Rattle.policy.specs.Record.{listed, levelsOf, actionsOf, rulesOf}
 use Rattle.reader.specs.declared.Reading.{Reading}
 use Rattle.reader.specs.Text.{decimal}
-use Rattle.reader.specs.Written.{lineOf, letterOf, joined, commas, each, levelText, actionText, ruleText, queryText}
-use Rattle.reader.specs.Written.{entriesText, fileOf}
-use Rattle.reader.specs.Laws.All.{All, all-head, all-tail}
+use Rattle.reader.specs.Written.{letterOf, commas, levelText, actionText, ruleText, queryText, entriesText, fileOf}
 use Rattle.reader.specs.Laws.Tests.{fits-parts}
-use Rattle.reader.specs.Laws.Numbers.{decimalBy-length}
+use Rattle.reader.specs.Laws.Lengths.{decimal-length, line-length, each-length, commas-length}
 use Rattle.reader.specs.Laws.Lists.{ReadableList}
 use Rattle.reader.specs.Laws.Records.{ReadableAction, ReadableRule, ReadableQuery}
 use Rattle.reader.specs.Laws.Readings.{queriesOf, textOf, ReadableLines}
-
--- a number below 10 ^ k has at most k digits
-decimal-length : (k n : ℕ) → n < 10 ^ suc k → length (decimal n) ≤ suc k
-unfolding decimal
-decimal-length k n h = decimalBy-length 9 k n h
-
--- a line is its contents and its key, the = sign and the LF
-line-length : (key : List ℕ) (c : List ℕ) → length (lineOf key c) ≡ length key + (length c + 2)
-unfolding lineOf
-line-length key c = simp length-append (omega arith)
-
--- texts of at most b bytes each
-each-length : {A : Type 0} (f : A → List ℕ) (b : ℕ) (l : List A) → All (λ x. length (f x) ≤ b) l → length (each f l) ≤ b * length l
-unfolding each
-each-length f b [] h = omega arith
-each-length f b (x ∷ l) h = simp length-append (omega (arith, all-head h, each-length f b l (all-tail h)))
-
--- a list of numbers of at most three digits
-commas-length : (ds : List ℕ) → All (λ d. d < 1000) ds → length (commas ds) ≤ 4 * length ds - 1
-unfolding commas joined
-commas-length [] h = omega arith
-commas-length (d ∷ []) h = omega (arith, decimal-length 2 d (all-head h))
-commas-length (d ∷ (e ∷ ds)) h =
-    simp length-append (omega (arith, decimal-length 2 d (all-head h), commas-length (e ∷ ds) (all-tail h)))
 
 -- a list of at most 8 of them
 list-length : (n : ℕ) (ds : List ℕ) → n ≤ 128 → ReadableList n ds → length (commas ds) ≤ 31
 unfolding ReadableList
 list-length n ds h f =
     let parts = fits-parts n ds (f .0) in
-    omega (arith, parts .0, commas-length ds (λ d m. omega (arith, parts .1 d m)))
+    omega (arith, parts .0, commas-length 3 ds (λ d m. decimal-length 2 d (omega (arith, parts .1 d m))))
 
 -- the texts of a kind, a level, an action, a rule and a query
 letter-length : (k : Kind) → length (letterOf k) ≡ 1
