@@ -30,17 +30,13 @@ impl Comparison {
 
     /// The first files of the seed, by what `clear` prints.
     pub fn clear(&mut self, program: &str, count: u64) -> io::Result<()> {
-        let (mut tally, mut queries, mut none) = (Tally::default(), 0, 0);
-        for number in 0..count {
-            let input = file(self.seed, number);
-            let due = run(&input);
-            tally.count(&due);
+        let (mut queries, mut none) = (0, 0);
+        let tally = self.each("", program, file, 0..count, |_, input| {
+            let due = run(input);
             queries += due.matches("want=").count();
             none += due.matches("best=none").count();
-            if self.differs("", number, &input, &output(program, &[], &input)?, &due)? {
-                break;
-            }
-        }
+            due
+        })?;
         self.tell(&format!("clear: {}, {queries} queries, {none} with none", tally.text()));
         Ok(())
     }
@@ -52,15 +48,8 @@ impl Comparison {
             Ok((policy, queries)) => policy.actions.len() <= 9 && queries.len() <= 8,
             Err(_) => number % 5 == 0,
         };
-        let mut tally = Tally::default();
-        for number in (0..).filter(meant).take(count as usize) {
-            let input = file(seed, number);
-            let due = probe(&input);
-            tally.count(&due);
-            if self.differs("", number, &input, &output(program, &[], &input)?, &due)? {
-                break;
-            }
-        }
+        let numbers = (0..).filter(meant).take(count as usize);
+        let tally = self.each("", program, file, numbers, |_, input| probe(input))?;
         self.tell(&format!("probe: {}", tally.text()));
         Ok(())
     }
@@ -68,24 +57,40 @@ impl Comparison {
     /// The first files for the levels, by what `levels` prints. Where there are few decisions, each assignment of
     /// levels is tried to see that the engine here is right.
     pub fn levels(&mut self, program: &str, count: u64) -> io::Result<()> {
-        let (mut tally, mut tried) = (Tally::default(), 0);
-        for number in 0..count {
-            let input = levels_file(self.seed, number);
-            match read_lines(&input) {
+        let mut tried = 0;
+        let tally = self.each("levels-", program, levels_file, 0..count, |number, input| {
+            match read_lines(input) {
                 Ok((policy, _)) if policy.levels.len() <= MOST_TRIED => {
                     assert!(is_lowest(&policy, &lowest(&policy)), "file {number} for the levels has others");
                     tried += 1;
                 }
                 _ => {}
             }
-            let due = levels(&input);
+            levels(input)
+        })?;
+        self.tell(&format!("levels: {}, {tried} with each assignment tried", tally.text()));
+        Ok(())
+    }
+
+    /// Files of the seed by their numbers, by what is due for each.
+    fn each(
+        &mut self,
+        kind: &str,
+        program: &str,
+        make: fn(u64, u64) -> Vec<u8>,
+        numbers: impl Iterator<Item = u64>,
+        mut due: impl FnMut(u64, &[u8]) -> String,
+    ) -> io::Result<Tally> {
+        let mut tally = Tally::default();
+        for number in numbers {
+            let input = make(self.seed, number);
+            let due = due(number, &input);
             tally.count(&due);
-            if self.differs("levels-", number, &input, &output(program, &[], &input)?, &due)? {
+            if self.differs(kind, number, &input, &output(program, &[], &input)?, &due)? {
                 break;
             }
         }
-        self.tell(&format!("levels: {}, {tried} with each assignment tried", tally.text()));
-        Ok(())
+        Ok(tally)
     }
 
     /// The first files for the levels that have levels, queries and few actions, mended: the levels that the one

@@ -57,8 +57,7 @@ module _ (p : Policy) where
 
   -- after k rules of a round
   pub record AtTurn (before : List ℕ) (k : ℕ) (level : List ℕ) (raised : Bool) : Type 0 where
-    pub reached : Reached p level
-    pub small : EachSmall level
+    pub now : AtRound level
     pub since : Since p before k level raised
 
   -- as the rounds start
@@ -67,7 +66,7 @@ module _ (p : Policy) where
 
   -- as a round starts
   pub turn-first : {level : List ℕ} → AtRound level → AtTurn level 0 level false
-  turn-first so = record { reached = so .reached; small = so .small; since = (refl, λ j h. absurd (omega arith)) }
+  turn-first so = record { now = so; since = (refl, λ j h. absurd (omega arith)) }
 
   -- questions 3 and 4 are answered yes
   module _ (three : othersInRange p ≡ true) (four : listsRise p ≡ true) where
@@ -78,19 +77,15 @@ module _ (p : Policy) where
       -- rule k raises the level of its head
       pub turn-raised : getD level (headOf p k) 0 < asked level (ruleOf p k) → asked level (ruleOf p k) ≤ 15
           → AtTurn before (k + 1) (raise p k level) true
-      turn-raised more low = record {
-        reached = reached-raise p range k h (so .reached);
-        small = raise-small p range k h (so .reached) (so .small) low;
-        since = since-raised p range k h before (so .reached) more raised (so .since);
+      turn-raised more low = let now = so .now .reached in record {
+        now = record { reached = reached-raise p range k h now; small = raise-small p range k h now (so .now .small) low };
+        since = since-raised p range k h before now more raised (so .since);
       }
 
       -- or is met as it is
       pub turn-kept : asked level (ruleOf p k) ≤ getD level (headOf p k) 0 → AtTurn before (k + 1) level raised
-      turn-kept low = record {
-        reached = so .reached;
-        small = so .small;
-        since = rw add-one (since-kept p range k h before (so .reached) low raised (so .since));
-      }
+      turn-kept low =
+          record { now = so .now; since = rw add-one (since-kept p range k h before (so .now .reached) low raised (so .since)) }
 
       -- no levels from 0 to 15 meet a rule that asks for more
       pub turn-refused : 15 < asked level (ruleOf p k) → refusedLevels 9 ≡ foundLevels p
@@ -98,7 +93,7 @@ module _ (p : Policy) where
           omega (
             arith,
             small-each p (lowest p) (reached-lowest p range) t (headOf p k),
-            asked-below p range k h (so .reached) (lowest p) (lowest-fits p range t),
+            asked-below p range k h (so .now .reached) (lowest p) (lowest-fits p range t),
           ))))
 
     -- no level was raised by all rules: they are the lowest
@@ -106,18 +101,14 @@ module _ (p : Policy) where
         → AtTurn before k level raised → raised ≡ false → record { refusal = 0; level = level } ≡ foundLevels p
     rounds-end {before} {k} {level} past so idle =
         let since = rw idle at (so .since) in
-        let t = each-small p level (so .small) in
+        let t = each-small p level (so .now .small) in
         let f = met-fits p level (λ j l. rw (since .0) (since .1 j (omega arith))) in
-        let same = lowest-only p range level (so .reached) t f in
+        let same = lowest-only p range level (so .now .reached) t f in
         rw same (sym (found-lowest p three four (is-true (small p (lowest p)) (rw (← same) t))))
 
-  module _ {before : List ℕ} {k : ℕ} {level : List ℕ} {raised : Bool} (so : AtTurn before k level raised) where
-    -- else another round follows
-    pub round-next : AtRound level
-    round-next = record { reached = so .reached; small = so .small }
-
-    -- and fewer are left: the sum of 128 levels is at most 1,920
-    pub fewer-rounds : raised ≡ true → 1920 - total level < 1920 - total before
-    fewer-rounds up =
-        let higher : total before < total level = rw up at (so .since) in
-        omega (arith, higher, total-small level (so .small), so .reached .long)
+  -- else another round follows, and fewer are left: the sum of 128 levels is at most 1,920
+  pub fewer-rounds : {before : List ℕ} {k : ℕ} {level : List ℕ} {raised : Bool} → AtTurn before k level raised → raised ≡ true
+      → 1920 - total level < 1920 - total before
+  fewer-rounds {before} {k} {level} so up =
+      let higher : total before < total level = rw up at (so .since) in
+      omega (arith, higher, total-small level (so .now .small), so .now .reached .long)

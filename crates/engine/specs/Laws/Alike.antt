@@ -1,11 +1,11 @@
 -- Policies with the same costs, whose sets clear alike, are answered alike.
 use Prim.Native.Nat.{ℕ, zero, suc, _^_}
-use mathlib.Core.Bool.{Bool, true, false, _&&_}
+use mathlib.Core.Bool.{Bool, _&&_}
 use mathlib.Core.Option.{Option, none, some}
 use mathlib.Core.Path.{_≡_, refl, _∙_, ap}
 use lib.ListN.{length}
 use Rattle.mask.specs.Mask.{contains}
-use Rattle.mask.specs.Laws.Tests.{someBelow-same}
+use Rattle.mask.specs.Laws.Tests.{choice, someBelow-same}
 use Rattle.policy.specs.declared.Policy.{Policy}
 use Rattle.policy.specs.declared.Query.{Query}
 use Rattle.engine.specs.Sets.{costOf}
@@ -35,10 +35,9 @@ lightest-same : (f g : ℕ → Bool) (c d : ℕ → ℕ) → ((s : ℕ) → f s 
     → (n : ℕ) → lightest f c n ≡ lightest g d n
 unfolding lightest
 lightest-same f g c d e h zero = refl
-lightest-same f g c d e h (suc n) = λ i. elim (e n i) [
-  | false ↦ lightest-same f g c d e h n i
-  | true ↦ (ap (λ (o : Option ℕ). lighter c o n) (lightest-same f g c d e h n) ∙ lighter-same c d h (lightest g d n) n) i
-]
+lightest-same f g c d e h (suc n) = choice (e n)
+    (ap (λ (o : Option ℕ). lighter c o n) (lightest-same f g c d e h n) ∙ lighter-same c d h (lightest g d n) n)
+    (lightest-same f g c d e h n)
 
 module _ (p p′ : Policy) (q : Query) (actions : p .actions ≡ p′ .actions) (clear : (s : ℕ) → clears p q s ≡ clears p′ q s) where
   -- the slim sets

@@ -6,14 +6,14 @@ use mathlib.Core.Path.{_≡_, refl, sym, _∙_, ap}
 use native.Mathlib.Nat.{le-refl, le-antisymm}
 use native.Mathlib.Decide.{decLt}
 use native.Mathlib.Omega.{arith}
-use lib.Dec.{T, leb→le, le→leb}
+use lib.Dec.{T, le→leb}
 use lib.ListN.{getD, replicate}
 use lib.Seq.{ext-getD}
-use Rattle.mask.specs.Laws.Tests.{is-true, passes, not-both, getD-filled, entry-or, entries-make}
+use Rattle.mask.specs.Laws.Tests.{is-true, passes, not-both, choice, getD-filled, entries-make}
 use Rattle.policy.specs.declared.Policy.{Policy}
 use Rattle.policy.specs.Record.{noRule, withLevels}
 use Rattle.policy.specs.Questions.{firstNo, levelInRange, ruleLevelsFit, othersInRange, listsRise, levelsFit, weightsFit, questions}
-use Rattle.policy.specs.Laws.{InRange, in-range, range-with, answered-with, firstNo-zero}
+use Rattle.policy.specs.Laws.{levels-small, InRange, in-range, range-with, answered-with, firstNo-zero}
 use Rattle.engine.specs.Calls.{refusedOr, checkOf}
 use Rattle.engine.specs.Levels.{fits, small, raised, rounds, lowest, levelQuestions, refusedLevels, foundLevels, Lowest, FindsLevels}
 use Rattle.engine.specs.Laws.Raised.{EachSmall, total, total-small, Reached, Met, Since, reached-none, reached-raised, since-round}
@@ -21,9 +21,8 @@ use Rattle.engine.specs.Laws.Raised.{EachSmall, total, total-small, Reac
 module _ (p : Policy) where
   -- levels in range are at most 15, where they are 0 past the count
   pub small-each : (level : List ℕ) → Reached p level → T (small p level) → EachSmall level
-  unfolding levelInRange
   small-each level so t d = elim (decLt d (p .decisions)) [
-    | yes h ↦ leb→le (getD level d 0) 15 (entry-or levelInRange 0 tt (p .decisions) level t d h)
+    | yes h ↦ levels-small (p .decisions) level t d h
     | no h ↦ omega (arith, so .past d (omega arith))
   ]
 
@@ -38,16 +37,14 @@ module _ (p : Policy) where
   met-fits level met = entries-make (ruleLevelsFit level) noRule (p .rules) (p .rule) met
 
   module _ (range : InRange (withLevels p (replicate 128 0))) where
-    round : List ℕ → List ℕ
-    round level = raised p (p .rules) level
+    abbrev round : List ℕ → List ℕ
+    round = raised p (p .rules)
 
     reached-round : (level : List ℕ) → Reached p level → Reached p (round level)
-    unfolding round
     reached-round = reached-raised p range (p .rules) (le-refl (p .rules))
 
     -- a round of levels that do not fit raises their sum
     higher : (level : List ℕ) → Reached p level → fits p level ≡ false → total level < total (round level)
-    unfolding round
     higher level so e = go (since-round p range (p .rules) (le-refl (p .rules)) level so)
       where
         go : (b : Bool) × Since p level (p .rules) (round level) b → total level < total (round level)
@@ -57,7 +54,7 @@ module _ (p : Policy) where
     -- the rounds are over, or one more is due
     rounds-case : (P : List ℕ → Type 0) (n : ℕ) (level : List ℕ) → (fits p level ≡ true → P level)
         → (fits p level ≡ false → P (rounds p n (round level))) → P (rounds p (suc n) level)
-    unfolding rounds round
+    unfolding rounds
     rounds-case P n level over due = go (fits p level) refl
       where
         go : (b : Bool) → fits p level ≡ b → P (elim b [ true ↦ level | false ↦ rounds p n (round level) ])
@@ -92,12 +89,7 @@ module _ (p : Policy) where
     pub lowest-small : (other : List ℕ) → T (small p other) → T (fits p other) → T (small p (lowest p))
     unfolding levelInRange
     lowest-small other t f = entries-make levelInRange 0 (p .decisions) (lowest p) (λ d h. le→leb (getD (lowest p) d 0) 15
-        (omega (
-          arith,
-          reached-lowest .below other f d,
-          leb→le (getD other d 0) 15
-              (entry-or levelInRange 0 tt (p .decisions) other t d h),
-        )))
+        (omega (arith, reached-lowest .below other f d, levels-small (p .decisions) other t d h)))
 
     -- levels that are reached and fit are the lowest
     pub lowest-only : (level : List ℕ) → Reached p level → T (small p level) → T (fits p level) → level ≡ lowest p
@@ -203,10 +195,8 @@ pub rounds-same : (p p′ : Policy) → ((level : List ℕ) → fits p level ≡
     → (n : ℕ) (level : List ℕ) → rounds p n level ≡ rounds p′ n level
 unfolding rounds
 rounds-same p p′ fit raise zero level = refl
-rounds-same p p′ fit raise (suc n) level = λ i. elim (fit level i) [
-  | true ↦ level
-  | false ↦ (rounds-same p p′ fit raise n (raised p (p .rules) level) ∙ ap (rounds p′ n) (raise level)) i
-]
+rounds-same p p′ fit raise (suc n) level = choice (fit level) refl
+    (rounds-same p p′ fit raise n (raised p (p .rules) level) ∙ ap (rounds p′ n) (raise level))
 
 -- the policy's own levels are not looked at
 module _ (p : Policy) (own : List ℕ) where

@@ -1,12 +1,12 @@
 -- Worlds and the rules fired depend on no entry past a count of the record.
 use Prim.Native.Nat.{ℕ, zero, suc, _≤_, _<_}
-use mathlib.Core.Bool.{Bool, true, false}
 use mathlib.Core.Path.{_≡_, refl, ap, _∙_}
 use native.Mathlib.Nat.{le-refl}
 use native.Mathlib.Omega.{arith}
 use lib.Bits.{bitOr}
 use lib.Dec.{T, eqb}
 use lib.ListN.{length}
+use Rattle.mask.specs.Laws.Tests.{choice}
 use Rattle.policy.specs.declared.Policy.{Policy}
 use Rattle.policy.specs.declared.Rule.{Rule}
 use Rattle.policy.specs.Record.{ruleOf, headOf, levelOf, cutRule, cut}
@@ -15,11 +15,6 @@ use Rattle.policy.specs.Laws.{in-range}
 use Rattle.policy.specs.Laws.Cut.{listed-cut, level-cut, also-cut, rule-cut, head-cut}
 use Rattle.model.specs.World.{alsoes, worldIn, worldOf}
 use Rattle.model.specs.Fire.{Marks, State, holds, fits, fire, fires, tried, pass, passes, upTo, firedOf}
-
--- a choice by a test, where the tests and what they choose are the same
-choice : {A : Type 0} {b c : Bool} {x x′ y y′ : A} → b ≡ c → x ≡ x′ → y ≡ y′
-    → _≡_ {A = A} (elim b [ true ↦ x | false ↦ y ]) (elim c [ true ↦ x′ | false ↦ y′ ])
-choice e f g = λ i. elim (e i) [ true ↦ f i | false ↦ g i ]
 
 -- a rule fits where its cut does
 fits-cut : (held : Marks) (w : ℕ) (r : Rule) → fits held w (cutRule r) ≡ fits held w r

@@ -11,7 +11,7 @@ use Rattle.policy.specs.Laws.{RuleFits, rule-wider, InRange}
 use Rattle.engine.specs.Laws.Raised.{total}
 use Rattle.engine.specs.Laws.Levels.{others-range}
 use Rattle.engine.proofs.Rounds.{AtRound, AtTurn, round-first, turn-first, turn-raised, turn-kept, turn-refused}
-use Rattle.engine.proofs.Rounds.{round-next, fewer-rounds, rounds-end}
+use Rattle.engine.proofs.Rounds.{fewer-rounds, rounds-end}
 use Rattle.engine.proofs.raising.lowest.Statement.{statement}
 use Rattle.engine.proofs.raising.lowest.Tie as tie
 
@@ -56,7 +56,7 @@ cast-head : tie.Need-cast-head Inv-loop μ-loop Inv-rounds μ-rounds
 cast-head c = omega (arith, ready (c .before .before) .head)
 
 asked-requires : tie.Need-asked-requires Inv-loop μ-loop Inv-rounds μ-rounds
-asked-requires c κs = (c .before .before .before .before .loop .inv .small, ready (c .before .before .before))
+asked-requires c κs = (c .before .before .before .before .loop .inv .now .small, ready (c .before .before .before))
 
 returns : tie.Need-returns Inv-loop μ-loop Inv-rounds μ-rounds
 returns c =
@@ -86,7 +86,7 @@ rounds-less : tie.Need-rounds-less Inv-loop μ-loop Inv-rounds μ-rounds
 rounds-less c = fewer-rounds _ (c .before .before .loop .inv) (not-false _ (c .if3 .left))
 
 rounds-again : tie.Need-rounds-again Inv-loop μ-loop Inv-rounds μ-rounds
-rounds-again c = round-next _ (c .before .before .loop .inv)
+rounds-again c = c .before .before .loop .inv .now
 
 returns-2 : tie.Need-returns-2 Inv-loop μ-loop Inv-rounds μ-rounds
 returns-2 c =
