@@ -11,6 +11,7 @@ use Rattle.engine.specs.declared.Listing.the-variants.{Refused as list-refused,
 use Rattle.engine.specs.Calls.{chooseOf, listOf, listAfter, fireOf}
 use Rattle.reader.specs.Text.{ascii, decimal}
 use Rattle.reader.specs.Written.{lineOf, commas}
+use Rattle.text.specs.Put.{refusedText}
 
 -- how many sets List wrote
 unfoldable pub written : Listing → ℕ
@@ -19,7 +20,7 @@ written (Listed n) = n
 
 -- the lines of an answer, where List wrote these sets and Fire names these rules for a set
 unfoldable pub answerText : Answer → List ℕ → (ℕ → List ℕ) → List ℕ
-answerText (choose-refused n) sets rules = lineOf (ascii "refused") (decimal n)
+answerText (choose-refused n) sets rules = refusedText n
 answerText None sets rules = lineOf (ascii "best") (ascii "none")
 answerText (Chosen c) sets rules =
     lineOf (ascii "best") (decimal (c .mask))

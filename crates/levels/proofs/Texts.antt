@@ -11,9 +11,9 @@ use Rattle.engine.specs.Laws.Refusals.{answered, refused}
 use Rattle.reader.specs.declared.Reading.{Reading}
 use Rattle.reader.specs.File.{draftOf}
 use Rattle.reader.specs.Written.{levelText, each}
-use Rattle.text.specs.Put.{Puts}
+use Rattle.text.specs.Put.{Puts, refusedText}
 use Rattle.text.specs.Laws.Putting.{stands}
-use Rattle.levels.specs.Printed.{refusedText, levelsText, textOf}
+use Rattle.levels.specs.Printed.{levelsText, textOf}
 use Rattle.levels.specs.Laws.Fits.{text-fits}
 
 -- the text by what the calls return, a draft and the levels found for it

@@ -5,12 +5,9 @@ use lib.ListN.{take}
 use Rattle.policy.specs.declared.Policy.{Policy}
 use Rattle.engine.specs.Calls.{refusedOr}
 use Rattle.engine.specs.Levels.{foundLevels}
-use Rattle.reader.specs.Text.{ascii, decimal}
-use Rattle.reader.specs.Written.{lineOf, each, levelText}
+use Rattle.reader.specs.Written.{each, levelText}
 use Rattle.reader.specs.File.{draftOf}
-
-unfoldable pub refusedText : ℕ → List ℕ
-refusedText n = lineOf (ascii "refused") (decimal n)
+use Rattle.text.specs.Put.{refusedText}
 
 -- the levels found for a policy
 unfoldable pub levelsText : Policy → List ℕ

@@ -2,31 +2,8 @@
 ghost use Prim.Native.Nat.{_≤_};
 ghost use mathlib.Core.Path.{_≡_};
 ghost use lib.ListN.{length, take};
-ghost use Rattle.reader.specs.Written.{each, levelText};
-ghost use Rattle.text.specs.Put.{Puts};
-ghost use Rattle.levels.specs.Printed.{refusedText, textOf};
+ghost use Rattle.levels.specs.Printed.{textOf};
 use policy::sizes::held;
-
-// Puts a refusal.
-fn put_refusal(buffer: &mut [u8], n: u8) -> usize
-    ensures { λ r. ⌜ Puts (now (buffer .entry)) 0 (refusedText n) (now (buffer .exit)) r ⌝ }
-{
-    text::line(buffer, 0, b"refused=", n as u32)
-}
-
-// Puts a line for each of the first `decisions` levels.
-fn put_levels(buffer: &mut [u8], level: [u8; 128], decisions: u8) -> usize
-    ensures { λ r. ⌜ Puts (now (buffer .entry)) 0 (each levelText (take decisions level)) (now (buffer .exit)) r ⌝ }
-{
-    let count = held(decisions as usize, 128);
-    let mut end = 0;
-    let mut d = 0;
-    while d < count {
-        end = text::line(buffer, end, b"level=", level[d] as u32);
-        d += 1;
-    }
-    end
-}
 
 // Puts the text for a file at the start of the buffer.
 fn put_found(buffer: &mut [u8], file: &[u8]) -> usize
@@ -37,15 +14,16 @@ fn put_found(buffer: &mut [u8], file: &[u8]) -> usize
 {
     let draft = reader::draft(file);
     if draft.refusal != 0 {
-        return put_refusal(buffer, draft.refusal);
+        return text::refusal(buffer, 0, draft.refusal);
     }
     let policy = draft.policy;
     let found = engine::levels(policy);
     if found.refusal != 0 {
-        return put_refusal(buffer, found.refusal);
+        return text::refusal(buffer, 0, found.refusal);
     }
     let level = found.level;
-    put_levels(buffer, level, policy.decisions)
+    let count = held(policy.decisions as usize, 128);
+    text::lines(buffer, 0, b"level=", &level[..count])
 }
 
 fn main() {

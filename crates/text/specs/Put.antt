@@ -1,9 +1,10 @@
--- What putting a text into a buffer does.
+-- What putting a text into a buffer does, and the text of a refusal.
 use Prim.Native.Nat.{ℕ, zero, suc, _+_, _-_}
 use mathlib.Core.Path.{_≡_}
 use mathlib.Core.List.{List, [], _++_}
 use lib.ListN.{length, take, drop}
-use Rattle.reader.specs.Text.{ascii}
+use Rattle.reader.specs.Text.{ascii, decimal}
+use Rattle.reader.specs.Written.{lineOf}
 
 -- as much of a text as there is room for behind the first `at` bytes
 unfoldable pub fitting : List ℕ → ℕ → List ℕ → List ℕ
@@ -18,3 +19,7 @@ pub record Puts (before : List ℕ) (at : ℕ) (text after : List ℕ) (end : �
 unfoldable pub comma : ℕ → List ℕ
 comma zero = []
 comma (suc i) = ascii ","
+
+-- the line of a refusal
+unfoldable pub refusedText : ℕ → List ℕ
+refusedText n = lineOf (ascii "refused") (decimal n)

@@ -2,7 +2,8 @@
 // are dropped.
 ghost use mathlib.Core.List.{_++_};
 ghost use Rattle.reader.specs.Text.{ascii, decimal};
-ghost use Rattle.text.specs.Put.{Puts, comma};
+ghost use Rattle.reader.specs.Written.{commas, each};
+ghost use Rattle.text.specs.Put.{Puts, comma, refusedText};
 
 // Puts a text.
 pub fn put(buffer: &mut [u8], at: usize, text: &[u8]) -> usize
@@ -47,4 +48,39 @@ pub fn entry(buffer: &mut [u8], at: usize, i: usize, n: u16) -> usize
     }
     let at = put(buffer, at, b",");
     number(buffer, at, n as u32)
+}
+
+// Puts the line of a refusal.
+pub fn refusal(buffer: &mut [u8], at: usize, n: u8) -> usize
+    ensures { λ r. ⌜ Puts (now (buffer .entry)) at (refusedText n) (now (buffer .exit)) r ⌝ }
+{
+    line(buffer, at, b"refused=", n as u32)
+}
+
+// Puts a line for each number: a key with its = sign, and the number.
+pub fn lines(buffer: &mut [u8], at: usize, key: &[u8], numbers: &[u8]) -> usize
+    ensures { λ r. ⌜ Puts (now (buffer .entry)) at
+        (each (λ n. now (key .entry) ++ (decimal n ++ ascii "\n")) (now (numbers .entry))) (now (buffer .exit)) r ⌝ }
+{
+    let mut end = at;
+    let mut i = 0;
+    while i < numbers.len() {
+        end = line(buffer, end, key, numbers[i] as u32);
+        i += 1;
+    }
+    end
+}
+
+// Puts the line of a list: a key with its = sign, and the numbers with one comma between.
+pub fn list(buffer: &mut [u8], at: usize, key: &[u8], numbers: &[u8]) -> usize
+    ensures { λ r. ⌜ Puts (now (buffer .entry)) at
+        (now (key .entry) ++ (commas (now (numbers .entry)) ++ ascii "\n")) (now (buffer .exit)) r ⌝ }
+{
+    let mut end = put(buffer, at, key);
+    let mut i = 0;
+    while i < numbers.len() {
+        end = entry(buffer, end, i, numbers[i] as u16);
+        i += 1;
+    }
+    put(buffer, end, b"\n")
 }

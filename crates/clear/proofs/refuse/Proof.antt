@@ -7,7 +7,7 @@ use Rattle.clear.proofs.refuse.Statement.{statement}
 use Rattle.clear.proofs.refuse.Tie as tie
 
 write-requires : tie.Need-write-requires
-write-requires c κs = let p = c .before .before .before .line .ensures in omega (arith, ends-within p zero-le, same-length p)
+write-requires c κs = let p = c .before .before .before .refusal .ensures in omega (arith, ends-within p zero-le, same-length p)
 
 pub refuse-spec : {M : Type 1} → statement M
-refuse-spec = tie.close (tie.spec (λ c. search needs) (λ c κs. search needs) write-requires (λ c. search needs) (λ c. search needs))
+refuse-spec = tie.close (tie.spec (λ c κs. search needs) write-requires (λ c. search needs) (λ c. search needs))

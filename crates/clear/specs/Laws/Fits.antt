@@ -19,13 +19,14 @@ use Rattle.reader.specs.Text.{decimal}
 use Rattle.reader.specs.Written.{commas}
 use Rattle.reader.specs.Laws.All.{All}
 use Rattle.reader.specs.Laws.Lengths.{decimal-length, ten-digits, commas-length, line-length}
+use Rattle.text.specs.Put.{refusedText}
 use Rattle.clear.specs.Printed.{answerText, setsListed, rulesFired, textOf}
 use Rattle.clear.specs.Laws.Listed.{lists-slim}
 
 -- the lines of an answer, where its sets take so many bytes and there are at most 128 rules
 answer-length : (a : Answer) (sets : List ℕ) (rules : ℕ → List ℕ)
     → length (commas sets) ≤ 196608 → ((s : ℕ) → length (rules s) ≤ 128) → length (answerText a sets rules) ≤ 199000
-unfolding answerText
+unfolding answerText refusedText
 answer-length (choose-refused n) sets rules few each = simp line-length (omega (arith, ten-digits n))
 answer-length None sets rules few each = simp line-length (omega arith)
 answer-length (Chosen c) sets rules few each =
@@ -54,7 +55,7 @@ module _ (p : Policy) (q : Query) where
   rules-length s = omega (arith, length-take (fireOf p q s .count) (fireOf p q s .rules), fire-places p q s)
 
   answer-fits : length (answerText (chooseOf p q) (setsListed p q) (rulesFired p q)) ≤ 199000
-  unfolding answerText chooseOf Accepted
+  unfolding answerText refusedText chooseOf Accepted
   answer-fits = elim (ℕ-discrete (firstNo (queryQuestions p q)) 0) [
     | yes ok ↦ answer-length (chooseOf p q) (setsListed p q) (rulesFired p q) (sets-length ok) rules-length
     | no not ↦ rw (refused (firstNo (queryQuestions p q)) choose-refused (answer p (length (slimSets p q)) (best p q)) not, line-length)

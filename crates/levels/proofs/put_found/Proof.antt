@@ -1,5 +1,12 @@
 -- `levels::put_found` meets its contract: a refusal is put, or the levels found; and either is the text for the file.
+use Prim.Native.Nat.{ℕ}
+use mathlib.Core.Path.{_≡_, sym, _∙_, ap}
+use native.Mathlib.Omega.{arith}
 use borrow.Author.Needs.{needs}
+use lib.ListN.{length, take}
+use lib.Seq.{length-take-le}
+use Rattle.mask.proofs.Every.{take-min}
+use Rattle.reader.specs.Written.{lineOf, each, levelText}
 use Rattle.text.specs.Laws.Putting.{same-text}
 use Rattle.levels.proofs.Texts.{draft-refused, none-found, levels-found, whole}
 use Rattle.levels.proofs.put_found.Statement.{statement}
@@ -9,7 +16,7 @@ returns : tie.Need-returns
 returns c =
     let draft = c .before .before .before .before .before .before in
     whole _ _ _ _ (draft .before .before .before .pre)
-    (same-text (c .before .before .put-refusal .ensures)
+    (same-text (c .before .before .refusal .ensures)
     (draft-refused _ (draft .draft .ensures) (c .before .before .before .before .if1 .taken)))
 
 returns-2 : tie.Need-returns-2
@@ -17,20 +24,39 @@ returns-2 c =
     let found = c .before .before .before .before .before .before in
     let draft = found .before .before .before .before in
     whole _ _ _ _ (draft .before .before .before .pre)
-    (same-text (c .before .before .put-refusal2 .ensures) (none-found _ (draft .draft .ensures) (found .before .before .if1 .left)
+    (same-text (c .before .before .refusal2 .ensures) (none-found _ (draft .draft .ensures) (found .before .before .if1 .left)
     (found .levels .ensures .0) (c .before .before .before .before .if2 .taken)))
 
+-- the levels found have 128 places
+long : (c : tie.After-levels) → length (c .levels .result .level) ≡ 128
+long c = search needs
+
+array-share-prefix-level : tie.Need-array-share-prefix-level
+array-share-prefix-level c = omega (arith, long (c .before .before .before .before .before .before .before))
+
+slice-aggregate-lines-2 : tie.Need-slice-aggregate-lines-2
+slice-aggregate-lines-2 c =
+    let held = c .before .before .before in
+    let found = held .before .before .before .before .before in
+    sym (length-take-le (held .held .result) (found .levels .result .level) (omega (arith, long found)))
+
 returns-3 : tie.Need-returns-3
+unfolding levelText lineOf
 returns-3 c =
-    let found = c .before .before .before .before .before .before .before in
+    let held = c .before .before .before .before .before .before in
+    let found = held .before .before .before .before .before in
     let draft = found .before .before .before .before in
+    let level = found .levels .result .level in
+    let count = draft .draft .result .policy .decisions in
+    let all = ap (λ (k : ℕ). take k level) (held .held .ensures) ∙ take-min count 128 level (long found) in
     whole _ _ _ _ (draft .before .before .before .pre)
-    (same-text (c .before .before .put-levels .ensures) (levels-found _ (draft .draft .ensures) (found .before .before .if1 .left)
-    (found .levels .ensures .0) (c .before .before .before .before .before .if2 .left)))
+    (same-text (c .before .before .lines .ensures) (ap (each levelText) all ∙ levels-found _ (draft .draft .ensures)
+    (found .before .before .if1 .left) (found .levels .ensures .0) (held .before .before .before .if2 .left)))
 
 pub put-found-spec : {M : Type 1} → statement M
 put-found-spec =
     tie.close
     (tie.spec
     (λ c κs. search needs) (λ c κs. search needs) (λ c. search needs) returns (λ c κs. search needs) (λ c κs. search needs)
-    (λ c. search needs) returns-2 (λ c κs. search needs) (λ c. search needs) returns-3)
+    (λ c. search needs) returns-2 (λ c. search needs) (λ c κs. search needs) (λ c. search needs) array-share-prefix-level
+    slice-aggregate-lines-2 (λ c κs. search needs) (λ c. search needs) returns-3)

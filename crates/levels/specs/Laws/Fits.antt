@@ -13,7 +13,8 @@ use Rattle.engine.specs.Laws.Refusals.{answered, refused}
 use Rattle.reader.specs.Written.{levelText, each}
 use Rattle.reader.specs.File.{draftOf}
 use Rattle.reader.specs.Laws.Lengths.{ten-digits, line-length, each-length}
-use Rattle.levels.specs.Printed.{refusedText, levelsText, textOf}
+use Rattle.text.specs.Put.{refusedText}
+use Rattle.levels.specs.Printed.{levelsText, textOf}
 
 refused-fits : (n : ℕ) → length (refusedText n) ≤ 4096
 unfolding refusedText

@@ -44,12 +44,12 @@ pub one-entry : (xs : List ℕ) {before mid after : List ℕ} {at end last i : �
 one-entry xs {i = i} h a b = same-text (both a b) (sym (rw add-one (one-more xs i h)))
 
 -- the texts of a list, and the next behind them
-each-more : (f : ℕ → List ℕ) (xs : List ℕ) (x : ℕ) → each f (xs ++ (x ∷ [])) ≡ each f xs ++ f x
+each-more : {A : Type 0} (f : A → List ℕ) (xs : List A) (x : A) → each f (xs ++ (x ∷ [])) ≡ each f xs ++ f x
 unfolding each
 each-more f [] x = append-nil (f x)
 each-more f (y ∷ xs) x = rw (each-more f xs x) (sym (append-assoc (f y) (each f xs) (f x)))
 
-pub one-text : (f : ℕ → List ℕ) (xs : List ℕ) {before mid after : List ℕ} {at end last i : ℕ} → i < length xs
-    → Puts before at (each f (take i xs)) mid end → Puts mid end (f (getD xs i 0)) after last
+pub one-text : {A : Type 0} (f : A → List ℕ) (d : A) (xs : List A) {before mid after : List ℕ} {at end last i : ℕ} → i < length xs
+    → Puts before at (each f (take i xs)) mid end → Puts mid end (f (getD xs i d)) after last
     → Puts before at (each f (take (i + 1) xs)) after last
-one-text f xs {i = i} h a b = same-text (both a b) (sym (rw (add-one, take-suc xs i 0 h) (each-more f (take i xs) (getD xs i 0))))
+one-text f d xs {i = i} h a b = same-text (both a b) (sym (rw (add-one, take-suc xs i d h) (each-more f (take i xs) (getD xs i d))))

@@ -19,12 +19,12 @@ abbrev lines : QueryResult → List ℕ → Answer → List ℕ
 lines r places a = answerText a (take (written (r .listing)) places) (λ _. take (r .firing .count) (r .firing .rules))
 
 returns : tie.Need-returns
-unfolding answerText lineOf
+unfolding answerText
 returns c =
     let line = c .before .before in
-    let answer = line .before .before .before .before in
+    let answer = line .before .before .before in
     let a = answer .before .before .before .args in
-    same-text (line .line .ensures) (ap (lines (a .result) (now (a .places))) (sym (answer .answer .given .1)))
+    same-text (line .refusal .ensures) (ap (lines (a .result) (now (a .places))) (sym (answer .answer .given .1)))
 
 returns-2 : tie.Need-returns-2
 unfolding answerText lineOf
@@ -49,6 +49,6 @@ pub put-answer-spec : {M : Type 1} → statement M
 put-answer-spec =
     tie.close
     (tie.spec
-    (λ c. search needs) (λ c. search needs) (λ c. search needs) (λ c κs. search needs) (λ c. search needs) (λ c. search needs)
-    (λ c κs. search needs) (λ c. search needs) (λ c κs. search needs) (λ c κs. search needs) (λ c κs. search needs)
-    (λ c. search needs) returns (λ c. search needs) returns-2 (λ c. search needs) returns-3)
+    (λ c. search needs) (λ c κs. search needs) (λ c. search needs) (λ c. search needs) (λ c κs. search needs) (λ c. search needs)
+    (λ c κs. search needs) (λ c κs. search needs) (λ c κs. search needs) (λ c. search needs) returns (λ c. search needs) returns-2
+    (λ c. search needs) returns-3)
