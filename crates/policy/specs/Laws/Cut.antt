@@ -70,13 +70,13 @@ action-weights action m a = everyBelow-same m (heavier (take m action) a) (heavi
 
 module _ (p : Policy) where
   -- the levels, actions and rules that the cut record holds
-  levels-cut : levelsOf (cut p) ≡ levelsOf p
+  pub levels-cut : levelsOf (cut p) ≡ levelsOf p
   levels-cut = take-take (p .decisions) (p .decisions) (p .level) (le-refl (p .decisions))
 
-  actions-cut : actionsOf (cut p) ≡ actionsOf p
+  pub actions-cut : actionsOf (cut p) ≡ actionsOf p
   actions-cut = take-take (p .actions) (p .actions) (p .action) (le-refl (p .actions))
 
-  rules-cut : rulesOf (cut p) ≡ map cutRule (rulesOf p)
+  pub rules-cut : rulesOf (cut p) ≡ map cutRule (rulesOf p)
   rules-cut = take-map cutRule (p .rules) (rulesOf p)
       ∙ ap (map cutRule) (take-take (p .rules) (p .rules) (p .rule) (le-refl (p .rules)))
 

@@ -8,7 +8,7 @@ use lib.Seq.{getD-take}
 use Rattle.mask.specs.Laws.Tests.{passes}
 use Rattle.policy.specs.declared.Rule.{Rule}
 use Rattle.policy.specs.declared.Decisions.{Decisions}
-use Rattle.policy.specs.Record.{listed, levelsOf, actionsOf, rulesOf, ruleOf, noAction, noRule}
+use Rattle.policy.specs.Record.{listed, levelsOf, actionsOf, rulesOf, ruleOf, noAction, noRule, Sized}
 use Rattle.policy.specs.Laws.{InRange, in-range}
 use Rattle.reader.specs.declared.Reading.{Reading}
 use Rattle.reader.specs.Format.{filled, decisionsOf}
@@ -16,7 +16,7 @@ use Rattle.reader.specs.File.{zeroRule, zeroQuery, recordOf, readingOf, 
 use Rattle.reader.specs.Cleared.{clearedRule, cleared, clearedReading}
 use Rattle.reader.specs.Claim.{AcceptedFile, DraftStates, States}
 use Rattle.reader.specs.Laws.Files.{draft-of-accepted}
-use Rattle.reader.specs.Laws.Back.{Sized, filled-length, draft-back}
+use Rattle.reader.specs.Laws.Back.{filled-length, draft-back}
 
 -- the entry at i of a list with f of each entry
 map-at : {A B : Type 0} (f : A → B) (d : A) (e : B) (l : List A) (i : ℕ) → i < length l → getD (map f l) i e ≡ f (getD l i d)
@@ -77,20 +77,21 @@ module _ (s : List ℕ) (r : Reading) (stated : DraftStates s r) where
       ap (λ (x : Decisions). length (x .at)) (ap list (rule-clear k less) ∙ clear)
       ∙ filled-length 8 0 (listed l) (omega (arith, length-take (l .count) (l .at)))
 
-  sized : Sized (r .policy) (r .queries .at)
+  sized : Sized (r .policy)
   unfolding clearedRule
   sized = record {
     levels = levels-full;
     actions = actions-full;
     rules = rules-full;
-    queries = queries-full;
-    ifs = λ k less. list-full k less (λ x. x .ifs) refl (range .rule k less .ifs .count);
-    unless = λ k less. list-full k less (λ x. x .unless) refl (range .rule k less .unless .count);
+    lists = λ k less. (
+      list-full k less (λ x. x .ifs) refl (range .rule k less .ifs .count),
+      list-full k less (λ x. x .unless) refl (range .rule k less .unless .count),
+    );
   }
 
   draft-only : r ≡ draftOf s
   draft-only =
-      let back = draft-back (r .policy) (r .queries .count) (r .queries .at) sized (stated .few) (stated .range) (stated .rise)
+      let back = draft-back (r .policy) (r .queries .count) (r .queries .at) sized queries-full (stated .few) (stated .range) (stated .rise)
       (stated .queries) in
       stated .clear ∙ sym back ∙ ap draftOf (sym (stated .text))
 

@@ -1,6 +1,6 @@
 -- Texts put one behind the other; and where there is room, the whole text stands in the buffer.
 use Prim.Native.Nat.{ℕ, zero, suc, _+_, _-_, _≤_}
-use mathlib.Core.Path.{_≡_, refl, sym, _∙_, ap, subst}
+use mathlib.Core.Path.{_≡_, refl, sym, _∙_, ap, ap₂, subst}
 use mathlib.Core.List.{List, [], _∷_, _++_, append-assoc, append-nil}
 use native.Mathlib.Nat.{add-zero}
 use native.Mathlib.Numerals.{unary-clauses}
@@ -15,6 +15,12 @@ pub record Stands (before : List ℕ) (at : ℕ) (text after : List ℕ) (end : 
   pub ends : end ≡ at + length text
   pub holds : take end after ≡ take at before ++ text
   pub rest : drop end after ≡ drop end before
+
+-- a text at the start
+pub at-start : {before text after : List ℕ} {end : ℕ} → Stands before 0 text after end → after ≡ text ++ drop (length text) before
+at-start {before} {text} {after} {end} s =
+    let same : end ≡ length text = omega (arith, s .ends) in
+    sym (take-append-drop end after) ∙ ap₂ _++_ (s .holds) (s .rest) ∙ ap (λ (k : ℕ). text ++ drop k before) same
 
 -- no text, and a text that has room
 stands-none : (before : List ℕ) (at : ℕ) → Stands before at [] (take at before ++ [] ++ drop (at + 0) before) (at + 0)

@@ -1,0 +1,14 @@
+-- `query_in_range` tests want and then done.
+use borrow.Author.Tests.{lt-ltb, le-ltb}
+use borrow.Author.Needs.{needs}
+use Rattle.policy.proofs.query_in_range.Statement.{statement}
+use Rattle.policy.proofs.query_in_range.Tie as tie
+
+returns : tie.Need-returns
+returns c = rw (le-ltb _ _ (c .if1 .taken))
+
+returns-2 : tie.Need-returns-2
+returns-2 c = rw (lt-ltb _ _ (c .before .if1 .left)) (c .fits2 .ensures)
+
+pub query-in-range-spec : {M : Type 1} → statement M
+query-in-range-spec = tie.close (tie.spec returns (λ c κs. search needs) returns-2)

@@ -1,0 +1,42 @@
+-- `put_list` meets its contract: the decisions below the count are put.
+use Prim.Native.Nat.{ℕ}
+use mathlib.Core.List.{_++_}
+use mathlib.Core.Path.{_≡_, sym, _∙_, ap}
+use native.Mathlib.Omega.{arith}
+use borrow.Author.Needs.{needs}
+use denote.Ref.{now}
+use lib.ListN.{length, take}
+use lib.Seq.{length-take-le}
+use Rattle.mask.proofs.Every.{take-min}
+use Rattle.reader.specs.Text.{ascii}
+use Rattle.reader.specs.Written.{commas}
+use Rattle.text.specs.Laws.Putting.{same-text}
+use Rattle.writer.proofs.file.put_list.Statement.{statement}
+use Rattle.writer.proofs.file.put_list.Tie as tie
+
+-- the list has 8 places
+long : (c : tie.Start) → length (c .args .list .at) ≡ 8
+long c = search needs
+
+array-share-prefix-decisions : tie.Need-array-share-prefix-decisions
+array-share-prefix-decisions c = omega (arith, long (c .before .before .before .before .before .before))
+
+slice-aggregate-list : tie.Need-slice-aggregate-list
+slice-aggregate-list c =
+    let held = c .before .before in
+    let start = held .before .before .before .before .before in
+    sym (length-take-le (held .held .result) (start .args .list .at) (omega (arith, long start)))
+
+returns : tie.Need-returns
+returns c =
+    let held = c .before .before .before .before .before in
+    let start = held .before .before .before .before .before in
+    let l = start .args .list in
+    let all = ap (λ (k : ℕ). take k (l .at)) (held .held .ensures) ∙ take-min (l .count) 8 (l .at) (long start) in
+    same-text (c .before .before .list .ensures) (ap (λ ds. now (start .args .key) ++ (commas ds ++ ascii "\n")) all)
+
+pub put-list-spec : {M : Type 1} → statement M
+put-list-spec =
+    tie.close
+    (tie.spec
+    (λ c. search needs) (λ c κs. search needs) array-share-prefix-decisions slice-aggregate-list (λ c κs. search needs) (λ c. search needs) returns)

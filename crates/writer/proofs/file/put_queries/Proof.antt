@@ -1,0 +1,35 @@
+-- `put_queries` meets its contract: the lines of the first i queries are put.
+use Prim.Native.Nat.{_-_}
+use native.Mathlib.Omega.{arith}
+use borrow.Author.Needs.{needs}
+use denote.Ref.{now}
+use Rattle.reader.specs.File.{zeroQuery}
+use Rattle.reader.specs.Written.{queryText}
+use Rattle.text.specs.Laws.Putting.{same-length}
+use Rattle.writer.proofs.Texts.{TextsPut, texts-none, texts-more, texts-all}
+use Rattle.writer.proofs.file.put_queries.Statement.{statement}
+use Rattle.writer.proofs.file.put_queries.Tie as tie
+
+abbrev Inv-loop : tie.InvT-loop
+Inv-loop buffer₀ at count query end end₀ i₀ buffer last i = TextsPut queryText query 64 end buffer₀ at i buffer last
+
+abbrev μ-loop : tie.MeasureT-loop
+μ-loop buffer₀ at count query end end₀ i₀ buffer last i = end - i
+
+loop-holds : tie.Need-loop-holds Inv-loop μ-loop
+loop-holds c = texts-none _ _ (search needs) (omega (arith, c .held .ensures))
+
+loop-again : tie.Need-loop-again Inv-loop μ-loop
+loop-again c =
+    let turn = c .before .before .before .before .before in
+    texts-more (turn .before .loop .inv) zeroQuery (omega arith) (c .before .before .put-query .ensures)
+
+returns : tie.Need-returns Inv-loop μ-loop
+returns c = texts-all (c .before .loop .inv) _ (c .before .before .held .ensures) (c .loop-test .left)
+
+pub put-queries-spec : {M : Type 1} → statement M
+put-queries-spec =
+    tie.close
+    (tie.spec
+    Inv-loop μ-loop (λ c κs. search needs) loop-holds (λ c. omega arith) (λ c. search needs) (λ c κs. search needs) (λ c. omega arith) (λ c. omega arith)
+    loop-again (λ c. same-length (c .before .loop .inv .put)) returns)

@@ -1,0 +1,10 @@
+-- The claim of the writer holds.
+pub mod Room
+pub mod Saved
+pub mod Alike
+use Rattle.writer.specs.Claim.{Saves}
+use Saved.{back, short, whole}
+use Alike.{same}
+
+pub saves : Saves
+saves = record { back = back; short = short; same = same; whole = whole }

@@ -1,0 +1,110 @@
+-- The file of an accepted record is read back, and each accepted file is what the writer makes of its record.
+use Prim.Native.Nat.{ℕ, zero, suc, _≤_, _<_}
+use mathlib.Core.Bool.{true}
+use mathlib.Core.List.{List, _++_}
+use mathlib.Core.Path.{_≡_, refl, sym, ap, _∙_}
+use native.Mathlib.Nat.{le-refl}
+use native.Mathlib.Omega.{arith}
+use lib.Dec.{T, leb, leb→le, le→leb}
+use lib.ListN.{length, getD, take, drop}
+use lib.Seq.{take-at, drop-at}
+use Rattle.mask.specs.Every.{every}
+use Rattle.mask.specs.Laws.Tests.{is-true, passes, and-make, parts, entry-at, entries-make}
+use Rattle.policy.specs.declared.Policy.{Policy}
+use Rattle.policy.specs.Questions.{firstNo, questions, queryInRange}
+use Rattle.policy.specs.Laws.{Answers, answers, answered-with, firstNo-zero}
+use Rattle.engine.specs.Calls.{refusedOr}
+use Rattle.engine.specs.Meaning.{AllYes}
+use Rattle.engine.specs.Laws.Refusals.{answered}
+use Rattle.reader.specs.declared.Queries.{Queries}
+use Rattle.reader.specs.File.{zeroQuery, readOf}
+use Rattle.reader.specs.Cleared.{clearedReading}
+use Rattle.reader.specs.Claim.{AcceptedFile, States}
+use Rattle.reader.specs.Laws.Back.{file-short, reads-back}
+use Rattle.reader.specs.Laws.States.{states, stated-answers}
+use Rattle.writer.specs.declared.Written.the-variants.{Refused, Length}
+use Rattle.writer.specs.Writing.{queriesInRange, recordQuestions, fileText, writeQuestions, writeOf, writeAfter, Writes}
+use Rattle.writer.specs.Claim.{AcceptedRecord, Rewritten}
+use Rattle.writer.specs.Laws.Room.{room, answered-before}
+
+-- what the questions say of an accepted record
+module _ (p : Policy) (qs : Queries) (ok : AcceptedRecord p qs) where
+  known : Answers p (queriesInRange p qs)
+  known = answers p (queriesInRange p qs) (ok .answers)
+
+  few : qs .count ≤ 64
+  unfolding queriesInRange
+  few = let given = known .given in leb→le (qs .count) 64 (search parts)
+
+  each-query : (i : ℕ) → i < qs .count → queryInRange p (getD (qs .at) i zeroQuery) ≡ true
+  unfolding queriesInRange
+  each-query i less =
+      let given = known .given in
+      is-true _ (entry-at (queryInRange p) zeroQuery (qs .count) (qs .at) (search parts) i less (omega (arith, few, ok .queries)))
+
+  pub short : length (fileText p qs) ≤ 27294
+  short = file-short p (qs .count) (qs .at) (ok .policy) (ok .queries) few (is-true _ (known .range)) (is-true _ (known .rise)) each-query
+
+  pub back : readOf (fileText p qs) ≡ clearedReading p (qs .count) (qs .at)
+  back = reads-back p (qs .count) (qs .at) (ok .policy) (ok .queries) few (is-true _ (known .range)) (is-true _ (known .rise))
+      each-query (is-true _ (known .levels)) (is-true _ (known .weights))
+
+-- what is written where no question is answered no
+module _ (p : Policy) (qs : Queries) (before : List ℕ) (yes : AllYes (writeQuestions p qs (length before))) where
+  pub length-written : writeOf p qs (length before) ≡ Length (length (fileText p qs))
+  unfolding writeOf
+  length-written = answered _ Refused _ yes
+
+  pub file-written : writeAfter p qs before ≡ fileText p qs ++ drop (length (fileText p qs)) before
+  unfolding writeAfter
+  file-written = answered _ (λ n. before) _ yes
+
+-- what is returned means what each case says, for a record in arrays of its structs' lengths
+pub write-means : (p : Policy) (qs : Queries) (before : List ℕ) → (AllYes (recordQuestions p qs) → AcceptedRecord p qs)
+    → Writes p qs before (writeAfter p qs before) (writeOf p qs (length before))
+unfolding writeOf writeAfter refusedOr
+write-means p qs before held = go (firstNo (writeQuestions p qs (length before))) refl
+  where
+    go : (n : ℕ) → firstNo (writeQuestions p qs (length before)) ≡ n
+        → Writes p qs before (refusedOr n (λ k. before) (fileText p qs ++ drop (length (fileText p qs)) before))
+        (refusedOr n Refused (Length (length (fileText p qs))))
+    go zero e =
+        let file = fileText p qs in
+        let front = take-at file (drop (length file) before) (length file) refl in (
+          e,
+          refl,
+          front,
+          drop-at file (drop (length file) before) (length file) refl,
+          rw front (back p qs (held (answered-before p qs (length before) e))),
+        )
+    go (suc n) e = ((e, λ z. omega arith), refl)
+
+-- the queries that an accepted file states are in range
+module _ (s : List ℕ) (accepted : AcceptedFile s) where
+  stated : States s (readOf s)
+  stated = states s accepted
+
+  queries-range : T (queriesInRange (readOf s .policy) (readOf s .queries))
+  unfolding queriesInRange
+  queries-range =
+      let p = readOf s .policy in
+      let qs = readOf s .queries in
+      let each = entries-make (queryInRange p) zeroQuery (qs .count) (qs .at) (λ i less. passes _ (stated .draft .queries i less)) in
+      and-make (leb (qs .count) 64) (every (queryInRange p) (take (qs .count) (qs .at))) (le→leb (qs .count) 64 (stated .draft .few)) each
+
+  -- and so are the questions answered yes
+  record-accepted : AllYes (recordQuestions (readOf s .policy) (readOf s .queries))
+  record-accepted =
+      let rest = queriesInRange (readOf s .policy) (readOf s .queries) in
+      firstNo-zero (questions (readOf s .policy) rest) (answered-with (stated-answers stated rest queries-range) rest queries-range)
+
+  pub whole : (before : List ℕ) → length s ≤ length before → Rewritten s before
+  whole before h =
+      let p = readOf s .policy in
+      let qs = readOf s .queries in
+      let text : fileText p qs ≡ s = sym (stated .draft .text) in
+      let yes = room p qs (length before) record-accepted (rw text h) in
+      record {
+        answer = length-written p qs before yes ∙ ap (λ t. Length (length t)) text;
+        after = file-written p qs before yes ∙ ap (λ t. t ++ drop (length t) before) text;
+      }
