@@ -5,6 +5,7 @@ use crate::levels::{is_lowest, levels, lowest, MOST_TRIED};
 use crate::probe::probe;
 use crate::reader::{read, read_lines};
 use crate::run::run;
+use crate::writer::rewrite;
 use std::collections::BTreeMap;
 use std::io::Write as _;
 use std::path::Path;
@@ -126,6 +127,24 @@ impl Comparison {
         Ok(())
     }
 
+    /// The first files of the seed, and as many of those for the levels, by what `rewrite` prints. An accepted file is
+    /// given back, by the engine here too.
+    pub fn rewrite(&mut self, program: &str, count: u64) -> io::Result<()> {
+        let mut longest = 0;
+        let mut due = |number: u64, input: &[u8]| {
+            let due = rewrite(input);
+            if !due.starts_with("refused=") {
+                assert!(due.as_bytes() == input, "file {number} is not given back");
+                longest = longest.max(input.len());
+            }
+            due
+        };
+        let mut tally = self.each("", program, file, 0..count, &mut due)?;
+        tally.add(self.each("levels-", program, levels_file, 0..count, &mut due)?);
+        self.tell(&format!("rewrite: {}, the longest accepted {longest} bytes", tally.text()));
+        Ok(())
+    }
+
     /// Prints the number of differences, and returns it.
     pub fn end(&self) -> usize {
         self.tell(&format!("{} differences", self.differences));
@@ -154,6 +173,12 @@ impl Tally {
     fn count(&mut self, due: &str) {
         let refused = due.strip_prefix("refused=").map(str::trim_end);
         *self.0.entry(refused.unwrap_or("0").to_string()).or_default() += 1;
+    }
+
+    fn add(&mut self, other: Tally) {
+        for (number, count) in other.0 {
+            *self.0.entry(number).or_default() += count;
+        }
     }
 
     fn text(&self) -> String {

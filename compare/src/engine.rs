@@ -42,8 +42,7 @@ impl<'a> Engine<'a> {
     /// Questions 3 to 6 as a call puts them: 3 to the whole of policy, query and offered set.
     fn questions(&self, query: &Query, set: u32) -> Result<(), Refusal> {
         let policy = self.policy;
-        let masks = policy.is_mask(query.done) && policy.is_mask(set);
-        ask(3, policy.in_range() && policy.is_decision(query.want) && masks)?;
+        ask(3, policy.in_range() && policy.is_query(query) && policy.is_mask(set))?;
         policy.ordered()
     }
 

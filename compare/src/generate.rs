@@ -3,17 +3,19 @@
 
 use crate::edges::edge;
 use crate::random::{small, Case};
+use crate::reader::read;
 use crate::rng::Rng;
-use crate::run::commas;
 use crate::shapes::valid;
 use crate::unlevelled::unlevelled;
+use crate::writer::lines;
+pub use crate::writer::text;
 
 /// Of twenty files in a row nine are valid, seven at an edge, three damaged and one of odd bytes.
 pub fn file(seed: u64, number: u64) -> Vec<u8> {
     let mut rng = Rng::new(seed, number);
     let (round, place) = (number / 20, number % 20);
     match place {
-        0..=8 => text(&to_lines(&valid(&mut rng, 9 * round + place))),
+        0..=8 => accepted(&valid(&mut rng, 9 * round + place)),
         9..=15 => edge(&mut rng, 7 * round + place - 9),
         16 => damaged_bytes(&mut rng),
         17 => damaged_lines(&mut rng),
@@ -35,33 +37,15 @@ pub fn levels_file(seed: u64, number: u64) -> Vec<u8> {
     }
 }
 
-pub fn to_lines(case: &Case) -> Vec<String> {
-    let policy = &case.policy;
-    let mut lines = vec![format!("decisions={}", policy.levels.len()), format!("actions={}", policy.actions.len())];
-    lines.extend(policy.levels.iter().map(|level| format!("level={level}")));
-    for action in &policy.actions {
-        lines.push(format!("kind={}", action.kind));
-        lines.push(format!("weight={}", action.weight));
-        lines.push(format!("also={}", action.also));
-    }
-    lines.push(format!("rules={}", policy.rules.len()));
-    for rule in &policy.rules {
-        lines.push(format!("head={}", rule.head));
-        lines.push(format!("needs={}", rule.needs));
-        lines.push(format!("if={}", commas(&rule.ifs)));
-        lines.push(format!("unless={}", commas(&rule.unless)));
-    }
-    lines.push(format!("queries={}", case.queries.len()));
-    for query in &case.queries {
-        lines.push(format!("want={}", query.want));
-        lines.push(format!("done={}", query.done));
-    }
-    lines
+/// The file of a case that is valid. The reader here must accept it.
+fn accepted(case: &Case) -> Vec<u8> {
+    let file = text(&to_lines(case));
+    assert!(read(&file).is_ok(), "a valid file is refused");
+    file
 }
 
-/// The lines, each with its LF.
-pub fn text(lines: &[String]) -> Vec<u8> {
-    lines.iter().flat_map(|line| [line.as_bytes(), b"\n"].concat()).collect()
+pub fn to_lines(case: &Case) -> Vec<String> {
+    lines(&case.policy, &case.queries)
 }
 
 /// One to three bytes changed to another of the file, changed in one bit, dropped, doubled or swapped, or the end

@@ -14,6 +14,7 @@ mod rng;
 mod run;
 mod shapes;
 mod unlevelled;
+mod writer;
 
 use compare::Comparison;
 use std::io::{self, Read, Write};
@@ -22,10 +23,12 @@ use std::process::ExitCode;
 const USAGE: &str = "usage: compare run                    what clear prints for standard input
        compare probe                  what probe prints for it
        compare levels                 what levels prints for it
+       compare rewrite                what rewrite prints for it
        compare make SEED N            file number N of a seed
        compare make-levels SEED N     file number N of a seed among those for the levels
        compare compare SEED PART ...  each part one of: clear CLEAR COUNT, probe PROBE COUNT,
-                                      levels LEVELS COUNT, mended LEVELS CLEAR COUNT
+                                      levels LEVELS COUNT, mended LEVELS CLEAR COUNT,
+                                      rewrite REWRITE COUNT
        compare bench CLEAR LEVELS";
 
 fn main() -> ExitCode {
@@ -47,6 +50,7 @@ fn work(arguments: &[&str]) -> io::Result<bool> {
         ["run"] => io::stdout().write_all(run::run(&input()?).as_bytes())?,
         ["probe"] => io::stdout().write_all(probe::probe(&input()?).as_bytes())?,
         ["levels"] => io::stdout().write_all(levels::levels(&input()?).as_bytes())?,
+        ["rewrite"] => io::stdout().write_all(writer::rewrite(&input()?).as_bytes())?,
         ["make", seed, number] => {
             io::stdout().write_all(&generate::file(parse(seed)?, parse(number)?))?;
         }
@@ -81,6 +85,10 @@ fn compare_parts(comparison: &mut Comparison, mut parts: &[&str]) -> io::Result<
             }
             ["mended", levels, clear, count, ref rest @ ..] => {
                 comparison.mended(levels, clear, parse(count)?)?;
+                rest
+            }
+            ["rewrite", rewrite, count, ref rest @ ..] => {
+                comparison.rewrite(rewrite, parse(count)?)?;
                 rest
             }
             _ => return Err(usage()),

@@ -60,6 +60,11 @@ impl Policy {
         u64::from(number) >> self.actions.len() == 0
     }
 
+    /// Question 3, to a query.
+    pub fn is_query(&self, query: &Query) -> bool {
+        self.is_decision(query.want) && self.is_mask(query.done)
+    }
+
     pub fn level(&self, decision: u32) -> u32 {
         self.levels[decision as usize]
     }

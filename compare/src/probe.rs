@@ -1,13 +1,15 @@
 //! What the program `probe` prints for a file: the answers of each call to every set offered, to lists of each
-//! length, to queries out of range and to spoilt policies.
+//! length, to buffers of several lengths, to queries out of range and to spoilt policies.
 
 use crate::engine::{check, Engine};
 use crate::levels::lowest;
-use crate::policy::{Action, Policy, Query, Refusal, Rule, MOST_DECISIONS};
-use crate::reader;
+use crate::policy::{Action, Policy, Query, Refusal, Rule, MOST_DECISIONS, MOST_QUERIES};
 use crate::run::commas;
+use crate::{reader, writer};
 
 const MOST_ACTIONS: usize = 8;
+/// The bytes lent to write what is spoilt; no accepted file is longer.
+const LENT: usize = 27_300;
 
 pub fn probe(input: &[u8]) -> String {
     let (policy, queries) = match reader::read(input) {
@@ -18,6 +20,9 @@ pub fn probe(input: &[u8]) -> String {
         return "too many actions\n".to_string();
     }
     let mut text = format!("check={}\n{}\n", number(check(&policy)), levels(&policy));
+    for length in [0, input.len() - 1, input.len(), input.len() + 3] {
+        text += &format!("write {length} {}\n", write(&policy, &queries, length));
+    }
     let mut engine = Engine::new(&policy);
     for query in &queries {
         text += &format!("query want={} done={}\n", query.want, query.done);
@@ -33,8 +38,10 @@ pub fn probe(input: &[u8]) -> String {
             let mut engine = Engine::new(&spoilt);
             let (judge, choose) = (judge(&mut engine, query, 0), choose(&mut engine, query));
             let (check, levels) = (number(check(&spoilt)), levels(&spoilt));
-            text += &format!("spoilt {name} check={check} judge {judge} choose {choose} {levels}\n");
+            let write = write(&spoilt, &queries, LENT);
+            text += &format!("spoilt {name} check={check} judge {judge} choose {choose} {levels} write {write}\n");
         }
+        text += &spoilt_queries(&policy, &queries);
     }
     text
 }
@@ -119,6 +126,21 @@ fn list(engine: &mut Engine, query: &Query, length: usize) -> String {
     format!("{answer} places={}", commas(&lent))
 }
 
+/// The writer on so many bytes `*`. Shown afterwards are the file and the next three bytes, as far as there are any.
+fn write(policy: &Policy, queries: &[Query], lent: usize) -> String {
+    let mut lent = vec![b'*'; lent];
+    match writer::write(policy, queries, &mut lent) {
+        Err(number) => {
+            let kept = lent.iter().filter(|&&byte| byte == b'*').count();
+            format!("refused={number} kept={kept}")
+        }
+        Ok(length) => {
+            lent.truncate(length + 3);
+            format!("length={length} bytes={}", String::from_utf8_lossy(&lent))
+        }
+    }
+}
+
 /// The policy with one entry spoilt at a time, and the name of what was spoilt. A count is spoilt by more entries.
 /// Nothing is kept past a count, so `past` changes nothing.
 fn spoilt(policy: &Policy) -> Vec<(&'static str, Policy)> {
@@ -140,9 +162,36 @@ fn spoilt(policy: &Policy) -> Vec<(&'static str, Policy)> {
     spoil("past", policy.levels.len() < MOST_DECISIONS, &|_| ());
     spoil("weight", has_action, &|p| p.actions[0].weight = 0);
     spoil("also", has_action, &|p| p.actions[0].also = 65_535);
+    spoil("itself", has_action, &|p| p.actions[0].also = 1);
     spoil("head", has_rule, &|p| p.rules[0].head = p.levels.len() as u32);
     spoil("list", has_rule, &|p| p.rules[0].ifs.resize(9, 0));
     spoil("falling", has_rule && policy.levels.len() >= 2, &|p| p.rules[0].ifs = vec![1, 0]);
     spoil("own", has_rule, &|p| p.rules[0].unless = vec![p.rules[0].head]);
     all
+}
+
+/// The lines of the queries, of which there is one at least, spoilt in the same way. Nothing is kept past a count of
+/// policy or queries, so `unused` changes nothing.
+fn spoilt_queries(policy: &Policy, queries: &[Query]) -> String {
+    let last = queries.len() - 1;
+    let (mut many, mut want, mut done) = (queries.to_vec(), queries.to_vec(), queries.to_vec());
+    many.resize(MOST_QUERIES + 1, Query { want: 0, done: 0 });
+    want[last].want = policy.levels.len() as u32;
+    done[last].done = 1 << policy.actions.len();
+    let line = |name, policy: &Policy, queries: &[Query], lent| {
+        format!("spoilt {name} write {}\n", write(policy, queries, lent))
+    };
+    let both = match spoilt(policy).iter().find(|(name, _)| *name == "own") {
+        Some((_, own)) => line("both", own, &want, LENT),
+        None => String::new(),
+    };
+    [
+        line("count", policy, &many, LENT),
+        line("short", policy, &many, 0),
+        line("want", policy, &want, LENT),
+        both,
+        line("done", policy, &done, LENT),
+        line("unused", policy, queries, LENT),
+    ]
+    .concat()
 }

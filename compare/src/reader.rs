@@ -6,7 +6,7 @@ use crate::policy::{
     MOST_RULES, TOP_LEVEL, TOP_WEIGHT,
 };
 
-const MOST_BYTES: usize = 32_768;
+pub const MOST_BYTES: usize = 32_768;
 
 /// The input from the line that is due.
 struct Lines<'a>(&'a [u8]);

@@ -8,7 +8,7 @@ use policy::Query;
 use policy::sizes::held;
 
 // The first mask that is no set of so many actions, or with 16 the last mask.
-fn past(actions: u8) -> u16 {
+pub(crate) fn past(actions: u8) -> u16 {
     if actions < 16 { 1u16 << actions } else { 65535 }
 }
 

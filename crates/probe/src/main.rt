@@ -1,4 +1,5 @@
-// The program `probe`: reads a file from standard input, and writes what the engine's calls return for its policy and queries.
+// The program `probe`: reads a file from standard input, and writes what the engine's
+// calls and the writer return for its policy and queries.
 use out::keyed;
 use out::text;
 use policy::Policy;
@@ -9,6 +10,8 @@ mod calls;
 mod lines;
 mod out;
 mod spoilt;
+mod spoilt_queries;
+mod written;
 
 // Writes the lines of a file.
 fn answer(policy: Policy, queries: Queries) {
@@ -16,6 +19,7 @@ fn answer(policy: Policy, queries: Queries) {
     text(b"\nlevels ");
     calls::levels(policy);
     text(b"\n");
+    written::lines(policy, queries);
     let query = queries.at;
     let count = held(queries.count as usize, 64);
     let mut i = 0;
@@ -26,7 +30,8 @@ fn answer(policy: Policy, queries: Queries) {
     }
     if count != 0 {
         let first = query[0];
-        spoilt::lines(policy, first);
+        spoilt::lines(policy, first, queries);
+        spoilt_queries::lines(policy, queries);
     }
 }
 

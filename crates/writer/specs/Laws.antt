@@ -2,6 +2,7 @@
 pub mod Room
 pub mod Saved
 pub mod Alike
+pub mod Drafts
 use Rattle.writer.specs.Claim.{Saves}
 use Saved.{back, short, whole}
 use Alike.{same}

@@ -6,16 +6,16 @@ use Rattle.probe.proofs.answer.Statement.{statement}
 use Rattle.probe.proofs.answer.Tie as tie
 
 abbrev Inv-loop : tie.InvT-loop
-Inv-loop policy query count i₀ i = Unit
+Inv-loop policy queries query count i₀ i = Unit
 
 abbrev μ-loop : tie.MeasureT-loop
-μ-loop policy query count i₀ i = count - i
+μ-loop policy queries query count i₀ i = count - i
 
 pub answer-spec : {M : Type 1} → statement M
 answer-spec =
     tie.close
     (tie.spec
     Inv-loop μ-loop (λ c. search needs) (λ c κs. search needs) (λ c. search needs) (λ c κs. search needs) (λ c. search needs)
-    (λ c κs. search needs) (λ c κs. search needs) (λ c. search needs) (λ c κs. search needs) (λ c. search needs) (λ c κs. search needs)
-    (λ c. tt) (λ c. omega arith) (λ c. omega arith) (λ c κs. search needs) (λ c. omega arith) (λ c. omega arith) (λ c. tt)
-    (λ c. search needs) (λ c κs. search needs) (λ c. search needs) (λ c. search needs))
+    (λ c κs. search needs) (λ c κs. search needs) (λ c. search needs) (λ c κs. search needs) (λ c κs. search needs) (λ c. search needs)
+    (λ c κs. search needs) (λ c. tt) (λ c. omega arith) (λ c. omega arith) (λ c κs. search needs) (λ c. omega arith) (λ c. omega arith)
+    (λ c. tt) (λ c. omega arith) (λ c κs. search needs) (λ c κs. search needs) (λ c. search needs) (λ c. search needs))

@@ -17,9 +17,10 @@ use Rattle.engine.specs.Calls.{refusedOr}
 use Rattle.engine.specs.Meaning.{AllYes}
 use Rattle.engine.specs.Laws.Refusals.{answered}
 use Rattle.reader.specs.declared.Queries.{Queries}
+use Rattle.reader.specs.declared.Reading.{Reading}
 use Rattle.reader.specs.File.{zeroQuery, readOf}
 use Rattle.reader.specs.Cleared.{clearedReading}
-use Rattle.reader.specs.Claim.{AcceptedFile, States}
+use Rattle.reader.specs.Claim.{AcceptedFile, DraftStates, States}
 use Rattle.reader.specs.Laws.Back.{file-short, reads-back}
 use Rattle.reader.specs.Laws.States.{states, stated-answers}
 use Rattle.writer.specs.declared.Written.the-variants.{Refused, Length}
@@ -79,24 +80,25 @@ write-means p qs before held = go (firstNo (writeQuestions p qs (length before))
         )
     go (suc n) e = ((e, λ z. omega arith), refl)
 
--- the queries that an accepted file states are in range
+-- the queries that a file states are in range
+pub queries-range : {s : List ℕ} {r : Reading} → DraftStates s r → T (queriesInRange (r .policy) (r .queries))
+unfolding queriesInRange
+queries-range {r = r} stated =
+    let p = r .policy in
+    let qs = r .queries in
+    let each = entries-make (queryInRange p) zeroQuery (qs .count) (qs .at) (λ i less. passes _ (stated .queries i less)) in
+    and-make (leb (qs .count) 64) (every (queryInRange p) (take (qs .count) (qs .at))) (le→leb (qs .count) 64 (stated .few)) each
+
 module _ (s : List ℕ) (accepted : AcceptedFile s) where
   stated : States s (readOf s)
   stated = states s accepted
 
-  queries-range : T (queriesInRange (readOf s .policy) (readOf s .queries))
-  unfolding queriesInRange
-  queries-range =
-      let p = readOf s .policy in
-      let qs = readOf s .queries in
-      let each = entries-make (queryInRange p) zeroQuery (qs .count) (qs .at) (λ i less. passes _ (stated .draft .queries i less)) in
-      and-make (leb (qs .count) 64) (every (queryInRange p) (take (qs .count) (qs .at))) (le→leb (qs .count) 64 (stated .draft .few)) each
-
-  -- and so are the questions answered yes
+  -- questions 3 to 6 are answered yes to what it states
   record-accepted : AllYes (recordQuestions (readOf s .policy) (readOf s .queries))
   record-accepted =
       let rest = queriesInRange (readOf s .policy) (readOf s .queries) in
-      firstNo-zero (questions (readOf s .policy) rest) (answered-with (stated-answers stated rest queries-range) rest queries-range)
+      let given = queries-range (stated .draft) in
+      firstNo-zero (questions (readOf s .policy) rest) (answered-with (stated-answers stated rest given) rest given)
 
   pub whole : (before : List ℕ) → length s ≤ length before → Rewritten s before
   whole before h =

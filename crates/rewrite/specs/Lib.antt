@@ -1,0 +1,3 @@
+-- The text that the program writes; Laws says what it is.
+pub mod Printed
+pub mod Laws

@@ -1,0 +1,34 @@
+// The program `rewrite`: reads a file from standard input, and writes the file that the writer makes of its record.
+ghost use Prim.Native.Nat.{_≤_};
+ghost use mathlib.Core.Path.{_≡_};
+ghost use lib.ListN.{length, take};
+ghost use Rattle.rewrite.specs.Printed.{textOf};
+use writer::Written;
+
+// Puts the text for a file at the start of the buffer. The reader asks questions 1 to 4, and the writer 5 and 6.
+fn put_text(buffer: &mut [u8], file: &[u8]) -> usize
+    requires { ⌜ length (now buffer) ≡ 27294 ⌝ }
+    ensures { λ r. ⌜ take r (now (buffer .exit)) ≡ textOf (now (file .entry)) ⌝ }
+    ensures { λ r. ⌜ r ≤ 27294 ⌝ }
+    ensures { λ _. ⌜ length (now (buffer .exit)) ≡ 27294 ⌝ }
+{
+    let draft = reader::draft(file);
+    if draft.refusal != 0 {
+        return text::refusal(buffer, 0, draft.refusal);
+    }
+    let policy = draft.policy;
+    let queries = draft.queries;
+    let written = writer::write(policy, queries, buffer);
+    match written {
+        Written::Refused(n) => text::refusal(buffer, 0, n),
+        Written::Length(n) => n,
+    }
+}
+
+fn main() {
+    let mut input = [0u8; 32769];
+    let mut buffer = [0u8; 27294];
+    let n = io::read_full(0, &mut input);
+    let end = put_text(&mut buffer, &input[..n]);
+    io::write_all(1, &buffer[..end]);
+}
