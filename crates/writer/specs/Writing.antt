@@ -31,8 +31,11 @@ module _ (p : Policy) (qs : Queries) where
   fileText = fileOf p (qs .count) (qs .at)
 
   -- and then 10: has a buffer of so many bytes room for the file?
+  abbrev pub roomQuestion : ℕ → Question
+  roomQuestion places = record { number = 10; yes = leb (length fileText) places }
+
   unfoldable pub writeQuestions : ℕ → List Question
-  writeQuestions places = recordQuestions ++ (record { number = 10; yes = leb (length fileText) places } ∷ [])
+  writeQuestions places = recordQuestions ++ (roomQuestion places ∷ [])
 
   unfoldable pub writeOf : ℕ → Written
   writeOf places = refusedOr (firstNo (writeQuestions places)) Refused (Length (length fileText))

@@ -54,11 +54,11 @@ module _ (p : Policy) (qs : Queries) (ok : AcceptedRecord p qs) where
 module _ (p : Policy) (qs : Queries) (before : List ℕ) (yes : AllYes (writeQuestions p qs (length before))) where
   pub length-written : writeOf p qs (length before) ≡ Length (length (fileText p qs))
   unfolding writeOf
-  length-written = answered _ Refused _ yes
+  length-written = answered _ _ _ yes
 
   pub file-written : writeAfter p qs before ≡ fileText p qs ++ drop (length (fileText p qs)) before
   unfolding writeAfter
-  file-written = answered _ (λ n. before) _ yes
+  file-written = answered _ _ _ yes
 
 -- what is returned means what each case says, for a record in arrays of its structs' lengths
 pub write-means : (p : Policy) (qs : Queries) (before : List ℕ) → (AllYes (recordQuestions p qs) → AcceptedRecord p qs)
