@@ -1,4 +1,5 @@
-//! Hard files, each timed in one run through `clear` or `levels` and through the engine here, as Markdown tables.
+//! Hard files, each timed in one run through `clear`, `levels` or `rewrite` and through the engine here, as Markdown
+//! tables.
 
 use crate::compare::output;
 use crate::generate::{text, to_lines};
@@ -12,10 +13,12 @@ use std::time::{Duration, Instant};
 /// A run that took longer than this is not repeated.
 const LONG: Duration = Duration::from_secs(4);
 const REPEATS: usize = 5;
+const LARGEST: Size = Size { decisions: 128, actions: 16, rules: 256, queries: 64, top_level: 15 };
 
-pub fn bench(clear: &str, levels: &str) -> io::Result<()> {
+pub fn bench(clear: &str, levels: &str, rewrite: &str) -> io::Result<()> {
     table("clear", clear, "run", cases())?;
     table("levels", levels, "levels", unlevelled())?;
+    table("rewrite", rewrite, "rewrite", written())?;
     println!("Each time is that of one run of the program, process start included, the best of up to {REPEATS}.");
     println!("A ratio below 1 means that the outside engine is the slower one.");
     println!(
@@ -59,8 +62,7 @@ fn best_time(program: &str, arguments: &[&str], file: &[u8]) -> io::Result<(Dura
 
 fn cases() -> Vec<(&'static str, Case)> {
     let mut rng = Rng::new(0, 0);
-    let size = Size { decisions: 128, actions: 16, rules: 256, queries: 64, top_level: 15 };
-    let mut many = random(&mut rng, &size);
+    let mut many = random(&mut rng, &LARGEST);
     many.policy.actions = actions(16);
     for query in &mut many.queries {
         query.done = 0;
@@ -82,11 +84,17 @@ fn cases() -> Vec<(&'static str, Case)> {
 
 fn unlevelled() -> Vec<(&'static str, Case)> {
     let mut rng = Rng::new(0, 0);
-    let size = Size { decisions: 128, actions: 16, rules: 256, queries: 0, top_level: 15 };
     vec![
         ("4 decisions, 4 rules", little()),
-        ("256 rules, 16 levels with unless", random(&mut rng, &size)),
+        ("256 rules, 16 levels with unless", random(&mut rng, &Size { queries: 0, ..LARGEST })),
         ("circle of 128 against file order, with one unless", circle()),
+    ]
+}
+
+fn written() -> Vec<(&'static str, Case)> {
+    vec![
+        ("4 decisions, 4 actions, 4 rules, 1 query", little()),
+        ("128 decisions, 16 actions, 256 rules, 64 queries", random(&mut Rng::new(0, 0), &LARGEST)),
     ]
 }
 
@@ -125,8 +133,7 @@ fn circle() -> Case {
 
 /// Random rules, and a decision on the highest level that only a circle gives.
 fn nothing(rng: &mut Rng) -> Case {
-    let size = Size { decisions: 128, actions: 16, rules: 256, queries: 0, top_level: 14 };
-    let mut case = random(rng, &size);
+    let mut case = random(rng, &Size { queries: 0, top_level: 14, ..LARGEST });
     case.policy.actions = actions(16);
     case.policy.levels[..2].fill(15);
     case.policy.rules.retain(|rule| rule.head > 1 && !rule.ifs.iter().chain(&rule.unless).any(|&d| d < 2));

@@ -29,7 +29,7 @@ const USAGE: &str = "usage: compare run                    what clear prints for
        compare compare SEED PART ...  each part one of: clear CLEAR COUNT, probe PROBE COUNT,
                                       levels LEVELS COUNT, mended LEVELS CLEAR COUNT,
                                       rewrite REWRITE COUNT
-       compare bench CLEAR LEVELS";
+       compare bench CLEAR LEVELS REWRITE";
 
 fn main() -> ExitCode {
     let arguments: Vec<String> = std::env::args().skip(1).collect();
@@ -62,7 +62,7 @@ fn work(arguments: &[&str]) -> io::Result<bool> {
             compare_parts(&mut comparison, parts)?;
             return Ok(comparison.end() == 0);
         }
-        ["bench", clear, levels] => bench::bench(clear, levels)?,
+        ["bench", clear, levels, rewrite] => bench::bench(clear, levels, rewrite)?,
         _ => return Err(usage()),
     }
     Ok(true)

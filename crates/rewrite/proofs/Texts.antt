@@ -5,17 +5,15 @@ use mathlib.Core.Path.{_≡_, refl, sym, _∙_, ap}
 use native.Mathlib.Omega.{arith}
 use lib.ListN.{length, take}
 use Rattle.policy.specs.Laws.{answers}
-use Rattle.engine.specs.Meaning.{Refuses, AllYes}
 use Rattle.engine.specs.Laws.Refusals.{answered}
 use Rattle.reader.specs.declared.Reading.{Reading}
 use Rattle.reader.specs.File.{refusedReading, draftOf, readOf}
 use Rattle.reader.specs.Laws.Files.{read-refused, read-passed, read-denied}
 use Rattle.reader.specs.Laws.Lengths.{ten-digits, line-length}
-use Rattle.reader.specs.Laws.States.{draft-states}
 use Rattle.text.specs.Put.{Puts, refusedText}
-use Rattle.text.specs.Laws.Putting.{stands, same-text}
+use Rattle.text.specs.Laws.Putting.{stands}
 use Rattle.writer.specs.declared.Written.the-variants.{Refused, Length}
-use Rattle.writer.specs.Writing.{queriesInRange, fileText, writeQuestions, Writes}
+use Rattle.writer.specs.Writing.{fileText, Writes}
 use Rattle.writer.specs.Laws.Room.{answered-before, has-room}
 use Rattle.writer.specs.Laws.Drafts.{draft-short, draft-asked}
 use Rattle.rewrite.specs.Printed.{textOf}

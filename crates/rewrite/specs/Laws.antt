@@ -1,18 +1,12 @@
 -- On every accepted file the text is the file itself; and it is what the draft and the writer make of the file.
 use Prim.Native.Nat.{ℕ}
 use mathlib.Core.List.{List}
-use mathlib.Core.Path.{_≡_, refl, sym, _∙_, ap}
-use lib.ListN.{length}
-use Rattle.policy.specs.Questions.{firstNo}
-use Rattle.engine.specs.Meaning.{Refuses, AllYes}
+use mathlib.Core.Path.{_≡_, sym, _∙_}
 use Rattle.engine.specs.Laws.Refusals.{answered, refused}
-use Rattle.reader.specs.declared.Reading.{Reading}
-use Rattle.reader.specs.File.{refusedReading, draftOf, readOf}
+use Rattle.reader.specs.File.{readOf}
 use Rattle.reader.specs.Claim.{AcceptedFile}
-use Rattle.reader.specs.Laws.Files.{read-refused, read-denied}
 use Rattle.reader.specs.Laws.States.{states}
 use Rattle.text.specs.Put.{refusedText}
-use Rattle.writer.specs.Writing.{fileText, writeQuestions}
 use Rattle.rewrite.specs.Printed.{textOf}
 
 pub rewritten : (s : List ℕ) → AcceptedFile s → textOf s ≡ s

@@ -8,10 +8,9 @@ use Rattle.policy.specs.Record.{Agree, Sized}
 use Rattle.engine.specs.Meaning.{AllYes}
 use Rattle.reader.specs.declared.Queries.{Queries}
 use Rattle.reader.specs.File.{readOf}
-use Rattle.reader.specs.Cleared.{clearedReading}
 use Rattle.reader.specs.Claim.{AcceptedFile}
 use Rattle.writer.specs.declared.Written.the-variants.{Length}
-use Rattle.writer.specs.Writing.{recordQuestions, fileText, writeOf, writeAfter}
+use Rattle.writer.specs.Writing.{recordQuestions, fileText, writeOf, writeAfter, Writes}
 
 -- a policy and its queries that a program holds, in arrays as long as their structs declare, and accepted
 pub record AcceptedRecord (p : Policy) (qs : Queries) : Type 0 where
@@ -38,8 +37,9 @@ pub record Rewritten (s : List ℕ) (before : List ℕ) : Type 0 where
   pub after : writeAfter (readOf s .policy) (readOf s .queries) before ≡ s ++ drop (length s) before
 
 pub record Saves : Type 0 where
-  -- the file of an accepted record is read back as the same record with unused entries zero
-  pub back : (p : Policy) (qs : Queries) → AcceptedRecord p qs → readOf (fileText p qs) ≡ clearedReading p (qs .count) (qs .at)
+  -- the file written of an accepted record is read back as the same record with unused entries zero
+  pub back : (p : Policy) (qs : Queries) → AcceptedRecord p qs → (before : List ℕ)
+      → Writes p qs before (writeAfter p qs before) (writeOf p qs (length before))
   -- it is short, so that question 1 is never in its way
   pub short : (p : Policy) (qs : Queries) → AcceptedRecord p qs → length (fileText p qs) ≤ 27294
   -- records that agree below their counts give the same bytes

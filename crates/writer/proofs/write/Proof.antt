@@ -1,10 +1,10 @@
 -- `write` is refused, or puts the file into a buffer of its own, which has room for every file, and copies it.
 use Prim.Native.Nat.{ℕ, _≤_}
-use mathlib.Core.Path.{_≡_, sym, _∙_, ap}
+use mathlib.Core.Path.{_≡_, sym, _∙_}
 use native.Mathlib.Omega.{arith}
 use borrow.Author.Needs.{needs}
 use denote.Ref.{now}
-use lib.ListN.{length, take, replicate, length-replicate}
+use lib.ListN.{length, replicate, length-replicate}
 use lib.Seq.{length-take-le}
 use Rattle.policy.specs.Questions.{firstNo, queryInRange}
 use Rattle.engine.specs.Meaning.{AllYes}

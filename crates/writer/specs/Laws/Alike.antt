@@ -1,20 +1,17 @@
 -- Records that agree below their counts are written alike.
 use Prim.Native.Nat.{ℕ}
-use mathlib.Core.Bool.{_&&_}
-use mathlib.Core.List.{List, [], _∷_, _++_}
-use mathlib.Core.Path.{_≡_, refl, sym, _∙_, ap, ap₂}
+use mathlib.Core.Path.{_≡_, sym, _∙_, ap₂}
 use native.Mathlib.Nat.{le-refl}
-use lib.Dec.{leb}
-use lib.ListN.{length, take, drop}
+use lib.ListN.{length, take}
 use lib.Seq.{take-take}
 use Rattle.policy.specs.declared.Policy.{Policy}
 use Rattle.policy.specs.declared.Rule.{Rule}
 use Rattle.policy.specs.Record.{cutRule, cut, Agree, rulesOf}
-use Rattle.policy.specs.Questions.{Question, firstNo, questions, queryInRange}
+use Rattle.policy.specs.Questions.{firstNo, queryInRange}
 use Rattle.policy.specs.Laws.Cut.{listed-cut, levels-cut, actions-cut, rules-cut, questions-cut}
 use Rattle.engine.specs.Laws.Alike.{refused-same}
 use Rattle.reader.specs.declared.Queries.{Queries}
-use Rattle.reader.specs.Written.{ruleText, queryText, each, entriesText, fileOf}
+use Rattle.reader.specs.Written.{ruleText, entriesText, fileOf}
 use Rattle.reader.specs.Laws.Back.{texts-same}
 use Rattle.writer.specs.Writing.{queriesInRange, fileText, writeQuestions, writeOf, writeAfter}
 use Rattle.writer.specs.Claim.{cutQueries, AgreeQueries, SameFile}

@@ -3,7 +3,6 @@ use Prim.Native.Nat.{ℕ, zero, suc, _≤_, _<_}
 use mathlib.Core.Bool.{true}
 use mathlib.Core.List.{List, _++_}
 use mathlib.Core.Path.{_≡_, refl, sym, ap, _∙_}
-use native.Mathlib.Nat.{le-refl}
 use native.Mathlib.Omega.{arith}
 use lib.Dec.{T, leb, leb→le, le→leb}
 use lib.ListN.{length, getD, take, drop}
@@ -46,8 +45,8 @@ module _ (p : Policy) (qs : Queries) (ok : AcceptedRecord p qs) where
   pub short : length (fileText p qs) ≤ 27294
   short = file-short p (qs .count) (qs .at) (ok .policy) (ok .queries) few (is-true _ (known .range)) (is-true _ (known .rise)) each-query
 
-  pub back : readOf (fileText p qs) ≡ clearedReading p (qs .count) (qs .at)
-  back = reads-back p (qs .count) (qs .at) (ok .policy) (ok .queries) few (is-true _ (known .range)) (is-true _ (known .rise))
+  read : readOf (fileText p qs) ≡ clearedReading p (qs .count) (qs .at)
+  read = reads-back p (qs .count) (qs .at) (ok .policy) (ok .queries) few (is-true _ (known .range)) (is-true _ (known .rise))
       each-query (is-true _ (known .levels)) (is-true _ (known .weights))
 
 -- what is written where no question is answered no
@@ -76,7 +75,7 @@ write-means p qs before held = go (firstNo (writeQuestions p qs (length before))
           refl,
           front,
           drop-at file (drop (length file) before) (length file) refl,
-          rw front (back p qs (held (answered-before p qs (length before) e))),
+          rw front (read p qs (held (answered-before p qs (length before) e))),
         )
     go (suc n) e = ((e, λ z. omega arith), refl)
 

@@ -2,7 +2,6 @@
 use Prim.Native.Nat.{_-_}
 use native.Mathlib.Omega.{arith}
 use borrow.Author.Needs.{needs}
-use denote.Ref.{now}
 use Rattle.reader.specs.File.{zeroQuery}
 use Rattle.reader.specs.Written.{queryText}
 use Rattle.text.specs.Laws.Putting.{same-length}

@@ -2,7 +2,6 @@
 use Prim.Native.Nat.{_-_}
 use native.Mathlib.Omega.{arith}
 use borrow.Author.Needs.{needs}
-use denote.Ref.{now}
 use Rattle.policy.specs.Record.{noRule}
 use Rattle.reader.specs.Written.{ruleText}
 use Rattle.text.specs.Laws.Putting.{same-length}
