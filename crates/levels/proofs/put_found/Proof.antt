@@ -1,11 +1,8 @@
 -- `levels::put_found` meets its contract: a refusal is put, or the levels found; and either is the text for the file.
-use Prim.Native.Nat.{ℕ}
-use mathlib.Core.Path.{_≡_, sym, _∙_, ap}
-use native.Mathlib.Omega.{arith}
+use mathlib.Core.Path.{_≡_, _∙_, ap}
 use borrow.Author.Needs.{needs}
-use lib.ListN.{length, take}
-use lib.Seq.{length-take-le}
-use Rattle.mask.proofs.Every.{take-min}
+use lib.ListN.{length}
+use Rattle.mask.proofs.Every.{held-within, held-length, held-take}
 use Rattle.reader.specs.Written.{lineOf, each, levelText}
 use Rattle.text.specs.Laws.Putting.{same-text}
 use Rattle.levels.proofs.Texts.{draft-refused, none-found, levels-found, whole}
@@ -32,13 +29,16 @@ long : (c : tie.After-levels) → length (c .levels .result .level) ≡ 128
 long c = search needs
 
 array-share-prefix-level : tie.Need-array-share-prefix-level
-array-share-prefix-level c = omega (arith, long (c .before .before .before .before .before .before .before))
+array-share-prefix-level c =
+    let held = c .before .before in
+    let found = held .before .before .before .before .before in
+    held-within (found .levels .result .level) _ (long found) (held .held .ensures)
 
 slice-aggregate-lines-2 : tie.Need-slice-aggregate-lines-2
 slice-aggregate-lines-2 c =
     let held = c .before .before .before in
     let found = held .before .before .before .before .before in
-    sym (length-take-le (held .held .result) (found .levels .result .level) (omega (arith, long found)))
+    held-length (found .levels .result .level) _ (long found) (held .held .ensures)
 
 returns-3 : tie.Need-returns-3
 unfolding levelText lineOf
@@ -46,9 +46,7 @@ returns-3 c =
     let held = c .before .before .before .before .before .before in
     let found = held .before .before .before .before .before in
     let draft = found .before .before .before .before in
-    let level = found .levels .result .level in
-    let count = draft .draft .result .policy .decisions in
-    let all = ap (λ (k : ℕ). take k level) (held .held .ensures) ∙ take-min count 128 level (long found) in
+    let all = held-take (found .levels .result .level) _ (long found) (held .held .ensures) in
     whole _ _ _ _ (draft .before .before .before .pre)
     (same-text (c .before .before .lines .ensures) (ap (each levelText) all ∙ levels-found _ (draft .draft .ensures)
     (found .before .before .if1 .left) (found .levels .ensures .0) (held .before .before .before .if2 .left)))

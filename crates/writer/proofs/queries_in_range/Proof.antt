@@ -35,7 +35,8 @@ returns-2 c =
 
 loop-again : tie.Need-loop-again Inv-loop μ-loop
 loop-again c =
-    passed-more (c .before .before .before .before .loop .inv) zeroQuery (omega arith) (tested-yes (c .before .query-in-range .ensures) (c .if2 .left))
+    passed-more (c .before .before .before .before .loop .inv) zeroQuery (omega arith)
+    (tested-yes (c .before .query-in-range .ensures) (c .if2 .left))
 
 returns-3 : tie.Need-returns-3 Inv-loop μ-loop
 returns-3 c =
@@ -47,5 +48,6 @@ pub queries-in-range-spec : {M : Type 1} → statement M
 queries-in-range-spec =
     tie.close
     (tie.spec
-    Inv-loop μ-loop returns (λ c. search needs) loop-holds (λ c. search needs) (λ c. search needs) (λ c κs. search needs) returns-2 (λ c. search needs) (λ c. search needs)
+    Inv-loop μ-loop returns (λ c. search needs) loop-holds (λ c. search needs) (λ c. search needs) (λ c κs. search needs) returns-2
+    (λ c. search needs) (λ c. search needs)
     loop-again returns-3)

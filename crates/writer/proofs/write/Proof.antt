@@ -33,7 +33,7 @@ returns c =
 accepted : (c : tie.Else1) → let a = c .before .before .before .before .args in AllYes (recordQuestions (a .policy) (a .queries))
 accepted c = sym (asked (c .before)) ∙ c .if1 .left
 
--- the whole file stands in the own buffer
+-- the whole file stands in the buffer that `write` has for itself
 file-stands : (c : tie.After-put-file) →
     let a = c .before .before .before .before .before .before .args in
     Stands (replicate 27294 0) 0 (fileText (a .policy) (a .queries)) (c .put-file .last .0) (c .put-file .result)
@@ -42,11 +42,13 @@ file-stands c =
     let few = short _ _ (held _ _ (start .good .0) (start .good .1 .0) (accepted (c .before .before))) in
     stands (c .put-file .ensures) (omega (arith, few, length-replicate {A = ℕ} 27294 0))
 
--- so its length is that of the file, and its bytes are the file's
-end : (c : tie.After-put-file) → let a = c .before .before .before .before .before .before .args in c .put-file .result ≡ length (fileText (a .policy) (a .queries))
+-- so what is returned is the length of the file
+end : (c : tie.After-put-file) →
+    let a = c .before .before .before .before .before .before .args in
+    c .put-file .result ≡ length (fileText (a .policy) (a .queries))
 end c = omega (arith, file-stands c .ends)
 
--- the buffer keeps its length, and the file is within it
+-- and it is within that buffer
 within : (c : tie.After-put-file) → c .put-file .result ≤ length (c .put-file .last .0)
 within c = omega (arith, ends-within (c .put-file .ensures) (omega arith), same-length (c .put-file .ensures))
 
@@ -71,7 +73,8 @@ returns-3 c =
     let start = file .before .before .before .before .before .before in
     let a = start .args in
     let put = same-text (c .before .before .put .ensures) (file-stands file .holds) in
-    let has : length (fileText (a .policy) (a .queries)) ≤ length (now (a .buffer)) = rw (← end file) (c .before .before .before .before .before .if2 .left) in
+    let has : length (fileText (a .policy) (a .queries)) ≤ length (now (a .buffer)) =
+    rw (← end file) (c .before .before .before .before .before .if2 .left) in
     rw (end file, at-start (stands put (omega (arith, has))))
     (write-written _ _ (start .good .0) (start .good .1 .0) _ (room _ _ _ (accepted (file .before .before)) has))
 

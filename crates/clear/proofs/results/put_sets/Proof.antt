@@ -1,11 +1,11 @@
 -- `clear::results::put_sets` meets its contract: the first i numbers are put.
-use Prim.Native.Nat.{ℕ, _-_, _≤_}
+use Prim.Native.Nat.{_-_, _≤_}
 use mathlib.Core.Path.{_≡_, _∙_, ap}
 use native.Mathlib.Omega.{arith}
 use borrow.Author.Needs.{needs}
 use denote.Ref.{now}
 use lib.ListN.{take}
-use Rattle.mask.proofs.Every.{take-min}
+use Rattle.mask.proofs.Every.{held-take}
 use Rattle.reader.specs.Written.{commas, joined}
 use Rattle.text.specs.Put.{Puts}
 use Rattle.text.specs.Laws.Putting.{nothing, same-length, same-text}
@@ -37,7 +37,7 @@ returns c =
     let s = c .before .before .before .before in
     let ps = now (s .args .places) in
     let last : l .i ≡ h .result = omega arith in
-    let all = ap (λ (k : ℕ). take k ps) (last ∙ h .ensures) ∙ take-min (s .args .count) 32768 ps (s .pre) in
+    let all = held-take ps (s .args .count) (s .pre) (last ∙ h .ensures) in
     same-text (l .inv .1) (ap commas all)
 
 pub put-sets-spec : {M : Type 1} → statement M

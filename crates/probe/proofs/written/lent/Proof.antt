@@ -7,15 +7,18 @@ use Rattle.probe.proofs.Lengths.{bounds}
 use Rattle.probe.proofs.written.lent.Statement.{statement}
 use Rattle.probe.proofs.written.lent.Tie as tie
 
+-- the length that is returned
 cast-keyed-2 : tie.Need-cast-keyed-2
 cast-keyed-2 c =
     let write = c .before .before .before .before .before .before in
-    omega (arith, bounds _ _ _ _ _ _ (c .before .before .written2 .given .1) (write .write .ensures .1 .1), write .before .before .before .pre)
+    let few = bounds _ _ _ _ _ _ (c .before .before .written2 .given .1) (write .write .ensures .1 .1) in
+    omega (arith, few, write .before .before .before .pre)
 
 add-held : tie.Need-add-held
 add-held c =
     let write = c .before .before .before .before .before .before .before .before .before in
-    omega (arith, bounds _ _ _ _ _ _ (c .before .before .before .before .before .written2 .given .1) (write .write .ensures .1 .1), write .before .before .before .pre)
+    let few = bounds _ _ _ _ _ _ (c .before .before .before .before .before .written2 .given .1) (write .write .ensures .1 .1) in
+    omega (arith, few, write .before .before .before .pre)
 
 slice-aggregate-text-2 : tie.Need-slice-aggregate-text-2
 slice-aggregate-text-2 c = sym (length-take-le (c .before .held .result) _ (omega (arith, c .before .held .ensures)))

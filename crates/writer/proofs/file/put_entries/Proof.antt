@@ -1,11 +1,8 @@
 -- `put_entries` meets its contract: the levels, the actions and the rules stand one behind the other.
-use Prim.Native.Nat.{ℕ}
-use mathlib.Core.Path.{_≡_, sym, _∙_, ap}
-use native.Mathlib.Omega.{arith}
+use mathlib.Core.Path.{_≡_, ap}
 use borrow.Author.Needs.{needs}
-use lib.ListN.{length, take}
-use lib.Seq.{length-take-le}
-use Rattle.mask.proofs.Every.{take-min}
+use lib.ListN.{length}
+use Rattle.mask.proofs.Every.{held-within, held-length, held-take}
 use Rattle.reader.specs.Written.{lineOf, each, levelText, entriesText}
 use Rattle.text.specs.Laws.Putting.{both, same-text}
 use Rattle.writer.proofs.file.put_entries.Statement.{statement}
@@ -16,13 +13,16 @@ long : (c : tie.Start) → length (c .args .policy .level) ≡ 128
 long c = search needs
 
 array-share-prefix-level : tie.Need-array-share-prefix-level
-array-share-prefix-level c = omega (arith, long (c .before .before .before .before .before .before .before .before))
+array-share-prefix-level c =
+    let held = c .before .before in
+    let start = held .before .before .before .before .before .before in
+    held-within (start .args .policy .level) _ (long start) (held .held .ensures)
 
 slice-aggregate-lines-2 : tie.Need-slice-aggregate-lines-2
 slice-aggregate-lines-2 c =
     let held = c .before .before .before in
     let start = held .before .before .before .before .before .before in
-    sym (length-take-le (held .held .result) (start .args .policy .level) (omega (arith, long start)))
+    held-length (start .args .policy .level) _ (long start) (held .held .ensures)
 
 returns : tie.Need-returns
 unfolding entriesText levelText lineOf
@@ -33,8 +33,7 @@ returns c =
     let levels = actions .before .before .before .before in
     let held = levels .before .before .before .before in
     let start = held .before .before .before .before .before .before in
-    let p = start .args .policy in
-    let all = ap (λ (k : ℕ). take k (p .level)) (held .held .ensures) ∙ take-min (p .decisions) 128 (p .level) (long start) in
+    let all = held-take (start .args .policy .level) _ (long start) (held .held .ensures) in
     both (same-text (levels .lines .ensures) (ap (each levelText) all))
     (both (actions .put-actions .ensures) (both (count .line .ensures) (rules .put-rules .ensures)))
 
@@ -42,4 +41,6 @@ pub put-entries-spec : {M : Type 1} → statement M
 put-entries-spec =
     tie.close
     (tie.spec
-    (λ c. search needs) (λ c κs. search needs) (λ c. search needs) array-share-prefix-level slice-aggregate-lines-2 (λ c κs. search needs) (λ c κs. search needs) (λ c. search needs) (λ c. search needs) (λ c κs. search needs) (λ c κs. search needs) (λ c. search needs) returns)
+    (λ c. search needs) (λ c κs. search needs) (λ c. search needs) array-share-prefix-level slice-aggregate-lines-2 (λ c κs. search needs)
+    (λ c κs. search needs) (λ c. search needs) (λ c. search needs) (λ c κs. search needs) (λ c κs. search needs) (λ c. search needs)
+    returns)

@@ -1,13 +1,10 @@
 -- `put_list` meets its contract: the decisions below the count are put.
-use Prim.Native.Nat.{ℕ}
 use mathlib.Core.List.{_++_}
-use mathlib.Core.Path.{_≡_, sym, _∙_, ap}
-use native.Mathlib.Omega.{arith}
+use mathlib.Core.Path.{_≡_, ap}
 use borrow.Author.Needs.{needs}
 use denote.Ref.{now}
-use lib.ListN.{length, take}
-use lib.Seq.{length-take-le}
-use Rattle.mask.proofs.Every.{take-min}
+use lib.ListN.{length}
+use Rattle.mask.proofs.Every.{held-within, held-length, held-take}
 use Rattle.reader.specs.Text.{ascii}
 use Rattle.reader.specs.Written.{commas}
 use Rattle.text.specs.Laws.Putting.{same-text}
@@ -19,24 +16,26 @@ long : (c : tie.Start) → length (c .args .list .at) ≡ 8
 long c = search needs
 
 array-share-prefix-decisions : tie.Need-array-share-prefix-decisions
-array-share-prefix-decisions c = omega (arith, long (c .before .before .before .before .before .before))
+array-share-prefix-decisions c =
+    let start = c .before .before .before .before .before .before in
+    held-within (start .args .list .at) _ (long start) (c .before .held .ensures)
 
 slice-aggregate-list : tie.Need-slice-aggregate-list
 slice-aggregate-list c =
     let held = c .before .before in
     let start = held .before .before .before .before .before in
-    sym (length-take-le (held .held .result) (start .args .list .at) (omega (arith, long start)))
+    held-length (start .args .list .at) _ (long start) (held .held .ensures)
 
 returns : tie.Need-returns
 returns c =
     let held = c .before .before .before .before .before in
     let start = held .before .before .before .before .before in
-    let l = start .args .list in
-    let all = ap (λ (k : ℕ). take k (l .at)) (held .held .ensures) ∙ take-min (l .count) 8 (l .at) (long start) in
-    same-text (c .before .before .list .ensures) (ap (λ ds. now (start .args .key) ++ (commas ds ++ ascii "\n")) all)
+    same-text (c .before .before .list .ensures) (ap (λ ds. now (start .args .key) ++ (commas ds ++ ascii "\n"))
+    (held-take (start .args .list .at) _ (long start) (held .held .ensures)))
 
 pub put-list-spec : {M : Type 1} → statement M
 put-list-spec =
     tie.close
     (tie.spec
-    (λ c. search needs) (λ c κs. search needs) array-share-prefix-decisions slice-aggregate-list (λ c κs. search needs) (λ c. search needs) returns)
+    (λ c. search needs) (λ c κs. search needs) array-share-prefix-decisions slice-aggregate-list (λ c κs. search needs)
+    (λ c. search needs) returns)
