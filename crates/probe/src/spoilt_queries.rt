@@ -75,19 +75,15 @@ fn unused_entries(rule: Rule) -> Rule {
 
 // A rule with full lists.
 fn full_rule() -> Rule {
-    let ifs = Decisions {
-        count: 8,
-        at: [7u8; 8],
-    };
-    let unless = Decisions {
+    let full = Decisions {
         count: 8,
         at: [7u8; 8],
     };
     Rule {
         head: 7,
         needs: 7,
-        ifs,
-        unless,
+        ifs: full,
+        unless: full,
     }
 }
 
