@@ -9,9 +9,9 @@ use Rattle.engine.specs.Laws.Refusals.{answered}
 use Rattle.reader.specs.declared.Reading.{Reading}
 use Rattle.reader.specs.File.{refusedReading, draftOf, readOf}
 use Rattle.reader.specs.Laws.Files.{read-refused, read-passed, read-denied}
-use Rattle.reader.specs.Laws.Lengths.{ten-digits, line-length}
 use Rattle.text.specs.Put.{Puts, refusedText}
-use Rattle.text.specs.Laws.Putting.{stands}
+use Rattle.text.specs.Laws.Putting.{whole}
+use Rattle.text.specs.Laws.Entries.{refused-length}
 use Rattle.writer.specs.declared.Written.the-variants.{Refused, Length}
 use Rattle.writer.specs.Writing.{fileText, Writes}
 use Rattle.writer.specs.Laws.Room.{answered-before, has-room}
@@ -25,11 +25,9 @@ Whole s after end = (take end after ≡ textOf s) × ((end ≤ 27294) × (length
 
 refused-stands : (s : List ℕ) (n : ℕ) {before after : List ℕ} {end : ℕ} → length before ≡ 27294 → refusedText n ≡ textOf s
     → Puts before 0 (refusedText n) after end → Whole s after end
-unfolding refusedText
 refused-stands s n long e put =
-    let fits : length (refusedText n) ≤ 27294 = rw line-length (omega (arith, ten-digits n)) in
-    let all = stands put (omega arith) in
-    (all .holds ∙ e, (omega (arith, all .ends), all .long ∙ long))
+    let all = whole 27294 long (omega (arith, refused-length n)) put in
+    (all .0 ∙ e, all .1)
 
 module _ (s : List ℕ) {r : Reading} (same : r ≡ draftOf s) (before : List ℕ) (long : length before ≡ 27294) where
   -- the draft is refused

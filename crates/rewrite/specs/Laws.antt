@@ -1,4 +1,4 @@
--- On every accepted file the text is the file itself; and it is what the draft and the writer make of the file.
+-- On every accepted file the text is the file itself, and on any other its refusal.
 use Prim.Native.Nat.{ℕ}
 use mathlib.Core.List.{List}
 use mathlib.Core.Path.{_≡_, sym, _∙_}

@@ -4,15 +4,16 @@ use borrow.Author.Needs.{needs}
 use lib.ListN.{length}
 use Rattle.mask.proofs.Every.{held-within, held-length, held-take}
 use Rattle.reader.specs.Written.{lineOf, each, levelText}
-use Rattle.text.specs.Laws.Putting.{same-text}
-use Rattle.levels.proofs.Texts.{draft-refused, none-found, levels-found, whole}
+use Rattle.text.specs.Laws.Putting.{same-text, whole}
+use Rattle.levels.specs.Laws.Fits.{text-fits}
+use Rattle.levels.proofs.Texts.{draft-refused, none-found, levels-found}
 use Rattle.levels.proofs.put_found.Statement.{statement}
 use Rattle.levels.proofs.put_found.Tie as tie
 
 returns : tie.Need-returns
 returns c =
     let draft = c .before .before .before .before .before .before in
-    whole _ _ _ _ (draft .before .before .before .pre)
+    whole 4096 (draft .before .before .before .pre) (text-fits _)
     (same-text (c .before .before .refusal .ensures)
     (draft-refused _ (draft .draft .ensures) (c .before .before .before .before .if1 .taken)))
 
@@ -20,7 +21,7 @@ returns-2 : tie.Need-returns-2
 returns-2 c =
     let found = c .before .before .before .before .before .before in
     let draft = found .before .before .before .before in
-    whole _ _ _ _ (draft .before .before .before .pre)
+    whole 4096 (draft .before .before .before .pre) (text-fits _)
     (same-text (c .before .before .refusal2 .ensures) (none-found _ (draft .draft .ensures) (found .before .before .if1 .left)
     (found .levels .ensures .0) (c .before .before .before .before .if2 .taken)))
 
@@ -47,7 +48,7 @@ returns-3 c =
     let found = held .before .before .before .before .before in
     let draft = found .before .before .before .before in
     let all = held-take (found .levels .result .level) _ (long found) (held .held .ensures) in
-    whole _ _ _ _ (draft .before .before .before .pre)
+    whole 4096 (draft .before .before .before .pre) (text-fits _)
     (same-text (c .before .before .lines .ensures) (ap (each levelText) all ∙ levels-found _ (draft .draft .ensures)
     (found .before .before .if1 .left) (found .levels .ensures .0) (held .before .before .before .if2 .left)))
 

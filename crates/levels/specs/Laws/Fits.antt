@@ -14,11 +14,8 @@ use Rattle.reader.specs.Written.{levelText, each}
 use Rattle.reader.specs.File.{draftOf}
 use Rattle.reader.specs.Laws.Lengths.{ten-digits, line-length, each-length}
 use Rattle.text.specs.Put.{refusedText}
+use Rattle.text.specs.Laws.Entries.{refused-length}
 use Rattle.levels.specs.Printed.{levelsText, textOf}
-
-refused-fits : (n : ℕ) → length (refusedText n) ≤ 4096
-unfolding refusedText
-refused-fits n = rw line-length (omega (arith, ten-digits n))
 
 level-length : (l : ℕ) → length (levelText l) ≤ 17
 unfolding levelText
@@ -28,7 +25,7 @@ level-length l = rw line-length (omega (arith, ten-digits l))
 either-fits : (n : ℕ) (text : List ℕ) → (n ≡ 0 → length text ≤ 4096) → length (refusedOr n refusedText text) ≤ 4096
 either-fits n text fits = elim (ℕ-discrete n 0) [
   | yes none ↦ rw (answered n refusedText text none) (fits none)
-  | no some ↦ rw (refused n refusedText text some) (refused-fits n)
+  | no some ↦ rw (refused n refusedText text some) (omega (arith, refused-length n))
 ]
 
 levels-fit : (p : Policy) → length (levelsText p) ≤ 4096

@@ -1,5 +1,6 @@
--- What is put of each entry of a list, entry by entry: texts one after the other, or numbers with commas between.
-use Prim.Native.Nat.{ℕ, zero, suc, _+_, _<_}
+-- What is put of each entry of a list, entry by entry: texts one after the other, or numbers with commas between. And how long
+-- the line of a refusal is.
+use Prim.Native.Nat.{ℕ, zero, suc, _+_, _≤_, _<_}
 use mathlib.Core.Path.{_≡_, refl, sym, _∙_, ap}
 use mathlib.Core.List.{List, [], _∷_, _++_, map, append-assoc, append-nil, map-append}
 use native.Mathlib.Numerals.{add-one}
@@ -8,7 +9,8 @@ use lib.ListN.{length, take, getD}
 use lib.Seq.{take-suc, length-take-le}
 use Rattle.reader.specs.Text.{ascii, decimal}
 use Rattle.reader.specs.Written.{joined, commas, each}
-use Rattle.text.specs.Put.{Puts, comma}
+use Rattle.reader.specs.Laws.Lengths.{ten-digits, line-length}
+use Rattle.text.specs.Put.{Puts, comma, refusedText}
 use Rattle.text.specs.Laws.Putting.{both, same-text}
 
 -- a comma stands before each entry but the first
@@ -53,3 +55,7 @@ pub one-text : {A : Type 0} (f : A → List ℕ) (d : A) (xs : List A) {before m
     → Puts before at (each f (take i xs)) mid end → Puts mid end (f (getD xs i d)) after last
     → Puts before at (each f (take (i + 1) xs)) after last
 one-text f d xs {i = i} h a b = same-text (both a b) (sym (rw (add-one, take-suc xs i d h) (each-more f (take i xs) (getD xs i d))))
+
+pub refused-length : (n : ℕ) → length (refusedText n) ≤ 19
+unfolding refusedText
+refused-length n = rw line-length (omega (arith, ten-digits n))

@@ -75,6 +75,11 @@ module _ {before text after : List ℕ} {at end : ℕ} (p : Puts before at text 
   pub same-text : {t : List ℕ} → text ≡ t → Puts before at t after end
   same-text e = subst (λ t. Puts before at t after end) e p
 
+-- a text at the start of a buffer of a size that is enough for it
+pub whole : {before text after : List ℕ} {end : ℕ} (size : ℕ) → length before ≡ size → length text ≤ size → Puts before 0 text after end
+    → (take end after ≡ text) × ((end ≤ size) × (length after ≡ size))
+whole size long fits put = let all = stands put (omega arith) in (all .holds, (omega (arith, all .ends), all .long ∙ long))
+
 -- nothing is put
 pub nothing : (before : List ℕ) (at : ℕ) → Puts before at [] before at
 unfolding fitting

@@ -4,7 +4,7 @@ use native.Mathlib.Omega.{arith}
 use borrow.Author.Needs.{needs}
 use denote.Ref.{now}
 use Rattle.reader.specs.Written.{lineOf}
-use Rattle.text.specs.Laws.Putting.{both, same-text, stands}
+use Rattle.text.specs.Laws.Putting.{both, same-text, whole}
 use Rattle.clear.specs.Laws.Fits.{text-fits}
 use Rattle.clear.proofs.Texts.{same-result}
 use Rattle.clear.proofs.results.put_result.Statement.{statement}
@@ -19,9 +19,9 @@ returns c =
     let s = w .before .before .before in
     let a = s .args in
     let same = same-result (a .policy) (a .query) (w .work .result) (now (a .places)) _ (s .pre .1) (w .work .ensures .0) in
-    let fits = text-fits (a .policy) (a .query) in
-    let whole = stands (same-text (both (want .line .ensures) (rest .put-answer .ensures)) same) (omega (arith, fits, s .pre .0)) in
-    (whole .holds, (omega (arith, whole .ends, fits), (whole .long ∙ s .pre .0, w .work .ensures .1 ∙ s .pre .1)))
+    let put = same-text (both (want .line .ensures) (rest .put-answer .ensures)) same in
+    let all = whole 200000 (s .pre .0) (omega (arith, text-fits (a .policy) (a .query))) put in
+    (all .0, (all .1 .0, (all .1 .1, w .work .ensures .1 ∙ s .pre .1)))
 
 pub put-result-spec : {M : Type 1} → statement M
 put-result-spec =
