@@ -23,6 +23,8 @@ pub struct Choice {
 
 pub struct Engine<'a> {
     policy: &'a Policy,
+    /// For each action what it reaches, itself too.
+    reached: Vec<u32>,
     /// The rules by the level of their heads.
     strata: Vec<Vec<SetRule>>,
     /// The model of each world that was met; it depends on the world alone, so queries share it.
@@ -31,8 +33,9 @@ pub struct Engine<'a> {
 
 impl<'a> Engine<'a> {
     pub fn new(policy: &'a Policy) -> Self {
-        let mut engine = Engine { policy, strata: Vec::new(), models: Vec::new() };
+        let mut engine = Engine { policy, reached: Vec::new(), strata: Vec::new(), models: Vec::new() };
         if check(policy).is_ok() {
+            engine.reached = reached(policy);
             engine.strata = (0..=TOP_LEVEL).map(|level| stratum(policy, level)).collect();
             engine.models = vec![None; 1 << policy.actions.len()];
         }
@@ -46,12 +49,9 @@ impl<'a> Engine<'a> {
         policy.ordered()
     }
 
-    /// Done, the set, and the also masks of the actions in these two, one step.
+    /// What the actions in done and the set reach.
     fn world(&self, done: u32, set: u32) -> u32 {
-        let own = done | set;
-        let actions = self.policy.actions.iter().enumerate();
-        let also = actions.filter(|&(i, _)| has(own, i)).map(|(_, action)| action.also);
-        also.fold(own, |world, also| world | also)
+        join(&self.reached, done | set)
     }
 
     /// Stratum by stratum, in rounds: a round adds the heads of all rules that the round before it satisfies.
@@ -170,6 +170,25 @@ impl<'a> Engine<'a> {
 pub fn check(policy: &Policy) -> Result<(), Refusal> {
     ask(3, policy.in_range())?;
     policy.ordered()
+}
+
+/// For each action what it reaches: itself, and what those in its also mask reach. They weigh less (question 6), so
+/// with the lightest action first theirs is known when it is asked for.
+fn reached(policy: &Policy) -> Vec<u32> {
+    let actions = &policy.actions;
+    let mut lightest_first: Vec<usize> = (0..actions.len()).collect();
+    lightest_first.sort_by_key(|&i| actions[i].weight);
+    let mut reached = vec![0; actions.len()];
+    for i in lightest_first {
+        reached[i] = 1 << i | join(&reached, actions[i].also);
+    }
+    reached
+}
+
+/// The masks that belong to the actions in the set, joined.
+fn join(masks: &[u32], set: u32) -> u32 {
+    let own = masks.iter().enumerate().filter(|&(i, _)| has(set, i));
+    own.fold(0, |joined, (_, mask)| joined | mask)
 }
 
 fn stratum(policy: &Policy, level: u32) -> Vec<SetRule> {

@@ -4,6 +4,7 @@ mod bench;
 mod compare;
 mod edges;
 mod engine;
+mod forms;
 mod generate;
 mod levels;
 mod policy;

@@ -52,8 +52,8 @@ pub fn large(rng: &mut Rng) -> Case {
 
 /// Up to all that a file may hold. Most have few actions, or 16 of which so many are done that few sets are left;
 /// one in eight has 16 actions, few rules and one query.
-pub fn full(rng: &mut Rng, index: u64) -> Case {
-    if (index / 13) % 8 == 0 {
+pub fn full(rng: &mut Rng, turn: u64) -> Case {
+    if turn % 8 == 0 {
         let size = Size { decisions: 24, actions: 16, rules: 40, queries: 1, top_level: 3 };
         return random(rng, &size);
     }

@@ -50,4 +50,13 @@ impl Rng {
             list.swap(end, self.below(end + 1));
         }
     }
+
+    /// The list as it is, turned round, or mixed.
+    pub fn reorder<T>(&mut self, list: &mut [T]) {
+        match self.below(3) {
+            0 => {}
+            1 => list.reverse(),
+            _ => self.shuffle(list),
+        }
+    }
 }

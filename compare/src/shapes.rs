@@ -1,12 +1,16 @@
 //! Valid policies of several shapes, each with queries: random ones, and those that are made to be hard.
 
+use crate::forms::forms;
 use crate::policy::{Action, Policy, Query, Rule};
 use crate::random::{actions, bits, full, large, mask, medium, queries, rule, small, Case};
 use crate::rng::Rng;
 
+/// In so many valid policies each shape has its turn.
+const TURNS: u64 = 15;
+
 /// The index-th valid policy: the shapes take turns.
 pub fn valid(rng: &mut Rng, index: u64) -> Case {
-    match index % 13 {
+    match index % TURNS {
         0..=2 => small(rng),
         3 => ways(rng),
         4 | 5 => truth_table(rng),
@@ -16,9 +20,11 @@ pub fn valid(rng: &mut Rng, index: u64) -> Case {
         9 => medium(rng),
         10 => large(rng),
         11 => all_of_several(rng),
-        _ => full(rng, index),
+        12 | 13 => forms(rng),
+        _ => full(rng, index / TURNS),
     }
 }
+
 /// A chosen decision that holds in worlds picked at random, one rule for each world: the actions in it are asked for
 /// by needs or by if, those outside it by unless. Any family of sets may be the enough ones, so a set may be enough
 /// and have smaller enough sets under failing ones.
@@ -63,11 +69,7 @@ fn chain(rng: &mut Rng) -> Case {
             policy.rules.push(if shortcuts { rule(rng, &policy) } else { back });
         }
     }
-    match rng.below(3) {
-        0 => policy.rules.reverse(),
-        1 => rng.shuffle(&mut policy.rules),
-        _ => {}
-    }
+    rng.reorder(&mut policy.rules);
     let mut queries = queries(rng, &policy, 2);
     queries.push(Query { want: 0, done: 0 });
     Case { policy, queries }

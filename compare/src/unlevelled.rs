@@ -106,7 +106,7 @@ fn circle(rng: &mut Rng) -> Policy {
         let (ifs, unless) = if rng.once_in(2) { (list, Vec::new()) } else { (Vec::new(), list) };
         policy.rules.push(Rule { head, ifs, unless, ..Rule::default() });
     }
-    in_some_order(rng, &mut policy.rules);
+    rng.reorder(&mut policy.rules);
     policy
 }
 
@@ -131,7 +131,7 @@ fn ladder(rng: &mut Rng) -> Policy {
         let other = rule(rng, &policy);
         policy.rules.push(other);
     }
-    in_some_order(rng, &mut policy.rules);
+    rng.reorder(&mut policy.rules);
     policy
 }
 
@@ -156,7 +156,7 @@ fn ranks(rng: &mut Rng) -> Policy {
         let other = rule(rng, &policy);
         policy.rules.push(other);
     }
-    in_some_order(rng, &mut policy.rules);
+    rng.reorder(&mut policy.rules);
     policy
 }
 
@@ -172,14 +172,6 @@ fn among(rng: &mut Rng, decision: u32, others: &[u32]) -> Vec<u32> {
 /// All decisions, rising, falling or mixed.
 fn any_order(rng: &mut Rng, decisions: usize) -> Vec<u32> {
     let mut order = (0..decisions as u32).collect::<Vec<u32>>();
-    in_some_order(rng, &mut order);
+    rng.reorder(&mut order);
     order
-}
-
-fn in_some_order<T>(rng: &mut Rng, list: &mut [T]) {
-    match rng.below(3) {
-        0 => {}
-        1 => list.reverse(),
-        _ => rng.shuffle(list),
-    }
 }

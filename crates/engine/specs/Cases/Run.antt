@@ -8,7 +8,7 @@ use Rattle.policy.specs.Questions.{firstNo, questions, queryInRange, inRange, o
 use Rattle.policy.specs.Questions.{actionInRange, ruleInRange, listInRange, listsRise, ruleRises, rises, levelsFit, ruleLevelsFit}
 use Rattle.policy.specs.Questions.{levelsBelow, weightsFit, outweighs, heavier, Accepted}
 use Rattle.policy.specs.Cases.{sample, ask}
-use Rattle.model.specs.World.{worldOf, worldIn, alsoes}
+use Rattle.model.specs.World.{worldOf, worldIn, followed, alsoes}
 use Rattle.model.specs.Fire.{firedOf, fits, fires, tried, pass, passes, upTo}
 use Rattle.engine.specs.declared.Answer.the-variants.{None, Chosen}
 use Rattle.engine.specs.Sets.{costOf, weighed}
@@ -28,7 +28,7 @@ pub record Run : Type 0 where
 pub run : Run
 unfolding sample every everyBelow someBelow firstNo questions queryInRange inRange othersInRange countsInRange levelInRange actionInRange
     ruleInRange listInRange listsRise ruleRises rises levelsFit ruleLevelsFit levelsBelow weightsFit outweighs heavier
-    worldOf worldIn alsoes firedOf fits fires
+    worldOf worldIn followed alsoes firedOf fits fires
     tried pass passes upTo costOf weighed among takenWithin minimal lightest lighter chooseOf answer refusedOr best clears
     enough firedFor slimSets slim
 run = record {
@@ -64,7 +64,7 @@ pub record Tested : Type 0 where
 pub tested : Tested
 unfolding sample every everyBelow someBelow firstNo questions queryInRange inRange othersInRange countsInRange levelInRange actionInRange
     ruleInRange listInRange listsRise ruleRises rises levelsFit ruleLevelsFit levelsBelow weightsFit outweighs heavier Accepted
-    worldOf worldIn alsoes firedOf
+    worldOf worldIn followed alsoes firedOf
     fits fires tried pass passes upTo costOf weighed takenWithin minimal lightest lighter best clears enough firedFor slim
 tested = record {
   accepted = refl;

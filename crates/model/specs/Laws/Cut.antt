@@ -13,7 +13,7 @@ use Rattle.policy.specs.Record.{ruleOf, headOf, levelOf, cutRule, cut}
 use Rattle.policy.specs.Questions.{inRange}
 use Rattle.policy.specs.Laws.{in-range}
 use Rattle.policy.specs.Laws.Cut.{listed-cut, level-cut, also-cut, rule-cut, head-cut}
-use Rattle.model.specs.World.{alsoes, worldIn, worldOf}
+use Rattle.model.specs.World.{alsoes, followed, worldIn, worldOf}
 use Rattle.model.specs.Fire.{Marks, State, holds, fits, fire, fires, tried, pass, passes, upTo, firedOf}
 
 -- a rule fits where its cut does
@@ -28,9 +28,14 @@ module _ (p : Policy) where
   alsoes-cut m zero h = refl
   alsoes-cut m (suc n) h = rw (alsoes-cut m n (omega arith), also-cut p n h)
 
+  followed-cut : (m k : ℕ) → followed (cut p .action) (p .actions) m k ≡ followed (p .action) (p .actions) m k
+  unfolding followed
+  followed-cut m zero = refl
+  followed-cut m (suc k) = rw (followed-cut m k, alsoes-cut (followed (p .action) (p .actions) m k) (p .actions) (le-refl _))
+
   pub world-cut : (done s : ℕ) → worldOf (cut p) done s ≡ worldOf p done s
   unfolding worldOf worldIn
-  world-cut done s = ap (bitOr (bitOr done s)) (alsoes-cut (bitOr done s) (p .actions) (le-refl (p .actions)))
+  world-cut done s = followed-cut (bitOr done s) (p .actions)
 
 -- the rules fired, where question 3 is answered yes: the head of each rule then has its level below the count
 module _ (p : Policy) (t : T (inRange p)) (w want : ℕ) where

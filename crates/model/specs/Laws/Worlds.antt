@@ -1,20 +1,23 @@
 -- Which actions the world of a set holds.
-use Prim.Native.Nat.{ℕ, zero, suc, _<_}
+use Prim.Native.Nat.{ℕ, zero, suc, _≤_, _<_}
 use mathlib.Core.Bool.{Bool, true, false, cond}
 use mathlib.Core.Logic.{_⊎_, inl, inr, ⊎-elim, _↔_}
 use mathlib.Core.Path.{_≡_}
-use native.Mathlib.Nat.{le-refl, not-suc-le-zero}
+use native.Mathlib.Nat.{le-refl, not-suc-le-zero, le-of-suc-le-suc}
 use lib.Bits.{bitOr}
 use lib.Dec.{T}
 use Rattle.mask.specs.Mask.{has}
 use Rattle.mask.specs.Laws.{has-or, has-none}
 use Rattle.mask.specs.Laws.Tests.{or-left, or-right, or-cases, below-suc, last-or-below}
 use Rattle.policy.specs.declared.Policy.{Policy}
+use Rattle.policy.specs.declared.Query.{Query}
 use Rattle.policy.specs.Record.{alsoOf}
-use Rattle.model.specs.World.{alsoes, worldIn, worldOf, Offers, InWorld}
+use Rattle.policy.specs.Questions.{Accepted}
+use Rattle.model.specs.World.{alsoes, followed, worldIn, worldOf, Reached, start, follow, steps, InWorld}
+use Rattle.model.specs.Laws.Chains.{few-steps}
 
 -- an action is in a join when it is in one of the two sets
-pub join-iff : (a b i : ℕ) → T (has (bitOr a b) i) ↔ (T (has a i) ⊎ T (has b i))
+join-iff : (a b i : ℕ) → T (has (bitOr a b) i) ↔ (T (has a i) ⊎ T (has b i))
 join-iff a b i = (
   λ t. or-cases (has a i) (has b i) (rw has-or at t),
   λ t. rw has-or (⊎-elim (or-left (has a i) (has b i)) (or-right (has a i) (has b i)) t),
@@ -49,21 +52,40 @@ module _ (p : Policy) (m i : ℕ) where
       (λ (e : a ≡ n). inr (rw e at (cond-make (has m a) (alsoOf p a) i s t)))
       (λ (l : a < n). inl (alsoes-make n (a, l, s, t))) (last-or-below h))
 
--- the world holds the actions of done and of s, and of the also mask of an action of either: one step
-pub world-holds : (p : Policy) (done s i : ℕ) → T (has (worldOf p done s) i) ↔ InWorld p done s i
+-- a mask m with the actions of a set, followed k steps
+module _ (p : Policy) {From : ℕ → Type 0} (m : ℕ) (is : (i : ℕ) → T (has m i) ↔ From i) where
+  abbrev after : ℕ → ℕ
+  after = followed (p .action) (p .actions) m
+
+  abbrev more : ℕ → ℕ
+  more k = alsoes (p .action) (after k) (p .actions)
+
+  -- it holds actions that are reached from the set
+  after-reached : (k i : ℕ) → T (has (after k) i) → Reached p From i
+  unfolding followed
+  after-reached zero i t = start (is i .0 t)
+  after-reached (suc k) i t = ⊎-elim {C = Reached p From i} (after-reached k i)
+      (λ (t : T (has (more k) i)). let r = alsoes-at p (after k) i (p .actions) t in follow (after-reached k (r .0) (r .2)) (r .1) (r .3))
+      (join-iff (after k) (more k) i .0 t)
+
+  -- it keeps the set's own
+  start-after : (k i : ℕ) → T (has m i) → T (has (after k) i)
+  unfolding followed
+  start-after zero i t = t
+  start-after (suc k) i t = join-iff (after k) (more k) i .1 (inl (start-after k i t))
+
+  -- and holds all that are reached in k steps
+  reached-after : {i : ℕ} (r : Reached p From i) (k : ℕ) → steps r ≤ k → T (has (after k) i)
+  unfolding followed steps
+  reached-after {i} (start t) k h = start-after k i (is i .1 t)
+  reached-after (follow r l t) zero h = absurd (not-suc-le-zero h)
+  reached-after {i} (follow {a} r l t) (suc k) h = join-iff (after k) (more k) i .1
+      (inr (alsoes-make p (after k) i (p .actions) (a, l, reached-after r k (le-of-suc-le-suc h), t)))
+
+-- the world holds exactly the actions that are reached from what is done and s
+pub world-holds : (p : Policy) (q : Query) → Accepted p q → (done s i : ℕ) → T (has (worldOf p done s) i) ↔ InWorld p done s i
 unfolding worldOf worldIn
-world-holds p done s i = (there, back)
-  where
-    m : ℕ
-    m = bitOr done s
-
-    there : T (has (bitOr m (alsoes (p .action) m (p .actions))) i) → InWorld p done s i
-    there t = ⊎-elim {C = InWorld p done s i} (λ (t : T (has m i)). inl (join-iff done s i .0 t))
-        (λ (t : T (has (alsoes (p .action) m (p .actions)) i)).
-        let r = alsoes-at p m i (p .actions) t in inr (r .0, r .1, join-iff done s (r .0) .0 (r .2), r .3))
-        (join-iff m (alsoes (p .action) m (p .actions)) i .0 t)
-
-    back : InWorld p done s i → T (has (bitOr m (alsoes (p .action) m (p .actions))) i)
-    back t = join-iff m (alsoes (p .action) m (p .actions)) i .1 (⊎-elim (λ (t : Offers done s i). inl (join-iff done s i .1 t))
-        (λ (t : (a : ℕ) × (a < p .actions) × Offers done s a × T (has (alsoOf p a) i)).
-        inr (alsoes-make p m i (p .actions) (t .0, t .1, join-iff done s (t .0) .1 (t .2), t .3))) t)
+world-holds p q ok done s i = let is = join-iff done s in (
+  after-reached p (bitOr done s) is (p .actions) i,
+  λ r. reached-after p (bitOr done s) is r (p .actions) (few-steps p q ok r),
+)
