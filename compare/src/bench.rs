@@ -1,5 +1,5 @@
 //! Hard files, each timed in one run through `clear`, `levels` or `rewrite` and through the engine here, as Markdown
-//! tables.
+//! tables; and, where an earlier `clear` is named, those without also masks through both builds of it.
 
 use crate::compare::output;
 use crate::generate::{text, to_lines};
@@ -13,9 +13,13 @@ use std::time::{Duration, Instant};
 /// A run that took longer than this is not repeated.
 const LONG: Duration = Duration::from_secs(4);
 const REPEATS: usize = 5;
+/// Two builds take turns for this long on a file, though at least and at most so many times.
+const TURNS_LONG: Duration = Duration::from_secs(5);
+const LEAST_TURNS: usize = 3;
+const MOST_TURNS: usize = 500;
 const LARGEST: Size = Size { decisions: 128, actions: 16, rules: 256, queries: 64, top_level: 15 };
 
-pub fn bench(clear: &str, levels: &str, rewrite: &str) -> io::Result<()> {
+pub fn bench(clear: &str, levels: &str, rewrite: &str, before: Option<&str>) -> io::Result<()> {
     table("clear", clear, "run", cases())?;
     table("levels", levels, "levels", unlevelled())?;
     table("rewrite", rewrite, "rewrite", written())?;
@@ -24,40 +28,82 @@ pub fn bench(clear: &str, levels: &str, rewrite: &str) -> io::Result<()> {
     println!(
         "The outside engine keeps the model of each world for all queries of a file; clear works each query afresh."
     );
-    Ok(())
+    before.map_or(Ok(()), |before| builds(clear, before))
 }
 
 /// The times of a program and of the engine here, told to print the same.
 fn table(name: &str, program: &str, command: &str, cases: Vec<(&str, Case)>) -> io::Result<()> {
     let own = std::env::current_exe()?;
     let own = own.to_str().expect("a path that is text");
-    println!("| file | {name}, ms | outside engine, ms | ratio |");
-    println!("|---|--:|--:|--:|");
+    heading("file", name, "outside engine");
     for (what, case) in cases {
         let file = text(&to_lines(&case));
-        let (time, printed) = best_time(program, &[], &file)?;
-        let (own_time, due) = best_time(own, &[command], &file)?;
-        let note = if printed == due { "" } else { " (and they differ)" };
-        let [time, own_time] = [time, own_time].map(|time| 1000.0 * time.as_secs_f64());
-        println!("| {what}{note} | {time:.1} | {own_time:.1} | {:.2} |", time / own_time);
+        row(what, best_time(program, &[], &file)?, best_time(own, &[command], &file)?);
     }
     println!();
     Ok(())
 }
 
-/// The least time that a program takes for a file, and what it prints.
-fn best_time(program: &str, arguments: &[&str], file: &[u8]) -> io::Result<(Duration, Vec<u8>)> {
-    let mut best = Duration::MAX;
-    let mut printed = Vec::new();
-    for _ in 0..REPEATS {
-        let start = Instant::now();
-        printed = output(program, arguments, file)?;
-        best = best.min(start.elapsed());
-        if best > LONG {
+/// The times of `clear` and of an earlier build of it, on the files without also masks.
+fn builds(clear: &str, before: &str) -> io::Result<()> {
+    println!();
+    heading("file without also masks", "clear", "earlier clear");
+    let without = |case: &Case| case.policy.actions.iter().all(|action| action.also == 0);
+    for (what, case) in cases().into_iter().filter(|(_, case)| without(case)) {
+        let [this, earlier] = best_in_turns([clear, before], &text(&to_lines(&case)))?;
+        row(what, this, earlier);
+    }
+    println!();
+    println!("The two builds took turns, {LEAST_TURNS} to {MOST_TURNS} times; the times are the best of these.");
+    println!("A ratio above 1 means that clear has become slower.");
+    Ok(())
+}
+
+fn heading(what: &str, name: &str, other: &str) {
+    println!("| {what} | {name}, ms | {other}, ms | ratio |");
+    println!("|---|--:|--:|--:|");
+}
+
+/// The times of two programs for a file, and whether they print the same.
+fn row(what: &str, one: Timed, other: Timed) {
+    let note = if one.1 == other.1 { "" } else { " (and they differ)" };
+    let [time, other_time] = [one.0, other.0].map(|time| 1000.0 * time.as_secs_f64());
+    println!("| {what}{note} | {time:.1} | {other_time:.1} | {:.2} |", time / other_time);
+}
+
+/// The least time that a program took for a file, and what it printed.
+type Timed = (Duration, Vec<u8>);
+
+fn timed(program: &str, arguments: &[&str], file: &[u8]) -> io::Result<Timed> {
+    let start = Instant::now();
+    let printed = output(program, arguments, file)?;
+    Ok((start.elapsed(), printed))
+}
+
+fn best_time(program: &str, arguments: &[&str], file: &[u8]) -> io::Result<Timed> {
+    let mut best = timed(program, arguments, file)?;
+    for _ in 1..REPEATS {
+        if best.0 > LONG {
             break;
         }
+        best.0 = best.0.min(timed(program, arguments, file)?.0);
     }
-    Ok((best, printed))
+    Ok(best)
+}
+
+/// The programs run one after the other, so that what else the machine does slows both.
+fn best_in_turns(programs: [&str; 2], file: &[u8]) -> io::Result<[Timed; 2]> {
+    let start = Instant::now();
+    let mut best = [timed(programs[0], &[], file)?, timed(programs[1], &[], file)?];
+    for turn in 1..MOST_TURNS {
+        if turn >= LEAST_TURNS && start.elapsed() > TURNS_LONG {
+            break;
+        }
+        for (best, program) in best.iter_mut().zip(programs) {
+            best.0 = best.0.min(timed(program, &[], file)?.0);
+        }
+    }
+    Ok(best)
 }
 
 fn cases() -> Vec<(&'static str, Case)> {
@@ -79,6 +125,8 @@ fn cases() -> Vec<(&'static str, Case)> {
         ("the same with 64 queries", many),
         ("the same with no query: reading alone", unasked),
         ("256 rules, 16 actions, nothing clears", nothing(&mut rng)),
+        ("16 actions in one chain of also masks, 1 rule, nothing clears", contained(1)),
+        ("the same with 64 queries", contained(64)),
     ]
 }
 
@@ -141,4 +189,16 @@ fn nothing(rng: &mut Rng) -> Case {
     case.policy.rules.push(Rule { head: 1, ifs: vec![0], ..Rule::default() });
     case.queries.push(Query { want: 0, done: 0 });
     case
+}
+
+/// Each action has the one numbered just below it in its also mask, so that a round over the actions by rising number
+/// follows each chain by one step. The only rule never fires, so every set is judged.
+fn contained(queries: usize) -> Case {
+    let mut policy = Policy { levels: vec![0], actions: actions(16), rules: Vec::new() };
+    for (number, action) in policy.actions.iter_mut().enumerate() {
+        action.weight = 1 + number as u32;
+        action.also = (1 << number) >> 1;
+    }
+    policy.rules.push(Rule { head: 0, ifs: vec![0], ..Rule::default() });
+    Case { policy, queries: vec![Query { want: 0, done: 0 }; queries] }
 }

@@ -30,7 +30,8 @@ const USAGE: &str = "usage: compare run                    what clear prints for
        compare compare SEED PART ...  each part one of: clear CLEAR COUNT, probe PROBE COUNT,
                                       levels LEVELS COUNT, mended LEVELS CLEAR COUNT,
                                       rewrite REWRITE COUNT
-       compare bench CLEAR LEVELS REWRITE";
+       compare bench CLEAR LEVELS REWRITE [BEFORE]
+                                      times of hard files; BEFORE is an earlier build of clear";
 
 fn main() -> ExitCode {
     let arguments: Vec<String> = std::env::args().skip(1).collect();
@@ -63,7 +64,8 @@ fn work(arguments: &[&str]) -> io::Result<bool> {
             compare_parts(&mut comparison, parts)?;
             return Ok(comparison.end() == 0);
         }
-        ["bench", clear, levels, rewrite] => bench::bench(clear, levels, rewrite)?,
+        ["bench", clear, levels, rewrite] => bench::bench(clear, levels, rewrite, None)?,
+        ["bench", clear, levels, rewrite, before] => bench::bench(clear, levels, rewrite, Some(before))?,
         _ => return Err(usage()),
     }
     Ok(true)
