@@ -11,9 +11,10 @@ use Rattle.mask.specs.Laws.{has-or, has-none}
 use Rattle.mask.specs.Laws.Tests.{or-left, or-right, or-cases, below-suc, last-or-below}
 use Rattle.policy.specs.declared.Policy.{Policy}
 use Rattle.policy.specs.declared.Query.{Query}
+use Rattle.policy.specs.declared.Rule.{Rule}
 use Rattle.policy.specs.Record.{alsoOf}
 use Rattle.policy.specs.Questions.{Accepted}
-use Rattle.model.specs.World.{alsoes, followed, worldIn, worldOf, Reached, start, follow, steps, InWorld}
+use Rattle.model.specs.World.{alsoes, followed, worldIn, worldOf, Reached, start, follow, steps, InWorld, Enabled}
 use Rattle.model.specs.Laws.Chains.{few-steps}
 
 -- an action is in a join when it is in one of the two sets
@@ -82,10 +83,15 @@ module _ (p : Policy) {From : ℕ → Type 0} (m : ℕ) (is : (i : ℕ) → T (h
   reached-after {i} (follow {a} r l t) (suc k) h = join-iff (after k) (more k) i .1
       (inr (alsoes-make p (after k) i (p .actions) (a, l, reached-after r k (le-of-suc-le-suc h), t)))
 
--- the world holds exactly the actions that are reached from what is done and s
-pub world-holds : (p : Policy) (q : Query) → Accepted p q → (done s i : ℕ) → T (has (worldOf p done s) i) ↔ InWorld p done s i
-unfolding worldOf worldIn
-world-holds p q ok done s i = let is = join-iff done s in (
-  after-reached p (bitOr done s) is (p .actions) i,
-  λ r. reached-after p (bitOr done s) is r (p .actions) (few-steps p q ok r),
-)
+module _ (p : Policy) (q : Query) (ok : Accepted p q) (done s : ℕ) where
+  -- the world holds exactly the actions that are reached from what is done and s
+  pub world-holds : (i : ℕ) → T (has (worldOf p done s) i) ↔ InWorld p done s i
+  unfolding worldOf worldIn
+  world-holds i = let is = join-iff done s in (
+    after-reached p (bitOr done s) is (p .actions) i,
+    λ r. reached-after p (bitOr done s) is r (p .actions) (few-steps p q ok r),
+  )
+
+  -- so a rule is enabled in it exactly when each action of its needs is reached
+  pub enabled-iff : (r : Rule) → Enabled (worldOf p done s) r ↔ ((i : ℕ) → T (has (r .needs) i) → InWorld p done s i)
+  enabled-iff r = (λ e i t. world-holds i .0 (e i t), λ e i t. world-holds i .1 (e i t))
