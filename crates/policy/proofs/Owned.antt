@@ -1,5 +1,5 @@
--- The lengths of the arrays of a policy that a function owns: those that its structs declare.
-use Prim.Native.Nat.{ℕ, zero, suc, _≤_, _<_}
+-- What owning a policy tells of it: its arrays are as long as its structs declare, and its weights have 16 bits.
+use Prim.Native.Nat.{ℕ, zero, suc, _≤_, _<_, zero-le}
 use mathlib.Core.List.{List, [], _∷_, map}
 use mathlib.Core.Path.{_≡_}
 use native.Mathlib.Omega.{arith}
@@ -10,7 +10,8 @@ use lib.ListN.{length, getD}
 use mir.Val.{Val}
 use Rattle.policy.specs.declared.Policy.{Policy}
 use Rattle.policy.specs.declared.Rule.{Rule}
-use Rattle.policy.specs.Record.{noRule, Eights, Sized}
+use Rattle.policy.specs.declared.Action.{Action}
+use Rattle.policy.specs.Record.{noRule, noAction, Eights, Sized}
 use Rattle.policy.proofs.Arrays.{length-mapped}
 use Rattle.policy.proofs.Policy as policy
 use Rattle.policy.proofs.Action as action
@@ -27,6 +28,18 @@ rules-owned [] us own k less = absurd (omega arith)
 rules-owned (r ∷ rs) [] own k less = absurd own
 rules-owned (r ∷ rs) (u ∷ us) own zero less = rule-owned r (u ∷ []) (own .0)
 rules-owned (r ∷ rs) (u ∷ us) own (suc k) less = rules-owned rs us (own .1) k (omega arith)
+
+-- a weight has 16 bits
+weight-owned : (a : Action) (vs : List Val) → shadow (action.the-row .own a vs) → a .weight ≤ 65535
+weight-owned a vs own = let fits : a .weight < 65536 = search needs in omega arith
+
+-- and so has each weight of an array of actions
+pub weights-owned : (l : List Action) (us : List Val) → shadow (each Action (action.the-row .own) l us)
+    → (k : ℕ) → getD l k noAction .weight ≤ 65535
+weights-owned [] us own k = zero-le
+weights-owned (a ∷ l) [] own k = absurd own
+weights-owned (a ∷ l) (u ∷ us) own zero = weight-owned a (u ∷ []) (own .0)
+weights-owned (a ∷ l) (u ∷ us) own (suc k) = weights-owned l us (own .1) k
 
 -- the lengths of all arrays of a policy that has at most 256 rules
 pub policy-owned : (p : Policy) (vs : List Val) → shadow (policy.the-row .own p vs) → p .rules ≤ 256 → Sized p
