@@ -2,9 +2,10 @@
 
 use crate::generate::{file, levels_file};
 use crate::levels::{is_lowest, levels, lowest, MOST_TRIED};
+use crate::longest::{longest, sets_of};
 use crate::probe::probe;
 use crate::reader::{read, read_lines};
-use crate::run::run;
+use crate::run::{commas, run};
 use crate::writer::rewrite;
 use std::collections::BTreeMap;
 use std::io::Write as _;
@@ -29,16 +30,23 @@ impl Comparison {
         Comparison { seed, differences: 0 }
     }
 
-    /// The first files of the seed, by what `clear` prints.
+    /// The first files of the seed, by what `clear` prints. No query has more slim sets than there are sets of half of
+    /// the actions.
     pub fn clear(&mut self, program: &str, count: u64) -> io::Result<()> {
-        let (mut queries, mut none) = (0, 0);
-        let tally = self.each("", program, file, 0..count, |_, input| {
+        let (mut queries, mut none, mut most) = (0, 0, 0);
+        let tally = self.each("", program, file, 0..count, |number, input| {
             let due = run(input);
             queries += due.matches("want=").count();
             none += due.matches("best=none").count();
+            if let Ok((policy, _)) = read(input) {
+                let (slim, actions) = (most_slim(&due), policy.actions.len());
+                assert!(slim <= sets_of(actions / 2, actions).len(), "file {number} has more slim sets");
+                most = most.max(slim);
+            }
             due
         })?;
-        self.tell(&format!("clear: {}, {queries} queries, {none} with none", tally.text()));
+        let text = tally.text();
+        self.tell(&format!("clear: {text}, {queries} queries, {none} with none, at most {most} slim sets"));
         Ok(())
     }
 
@@ -145,6 +153,20 @@ impl Comparison {
         Ok(())
     }
 
+    /// The file with the longest list, by what `longest` prints, and by what `clear` and the probe print for it. Its
+    /// list has the sets of exactly 8 actions.
+    pub fn longest(&mut self, program: &str, clear: &str, prober: &str) -> io::Result<()> {
+        let (file, sets) = (longest(), sets_of(8, 16));
+        let answers = run(&file);
+        let (counted, listed) = (format!("slim={}", sets.len()), format!("list={}", commas(&sets)));
+        assert!([counted, listed].iter().all(|due| answers.lines().any(|line| line == due)), "other sets are listed");
+        self.differs("longest-", 0, &file, &output(program, &[], b"")?, &String::from_utf8_lossy(&file))?;
+        self.differs("longest-", 1, &file, &output(clear, &[], &file)?, &answers)?;
+        self.differs("longest-", 2, &file, &output(prober, &[], &file)?, &probe(&file))?;
+        self.tell(&format!("longest: {} bytes, {} sets listed", file.len(), sets.len()));
+        Ok(())
+    }
+
     /// Prints the number of differences, and returns it.
     pub fn end(&self) -> usize {
         self.tell(&format!("{} differences", self.differences));
@@ -200,6 +222,12 @@ fn with_levels(input: &[u8], levels: &str) -> Vec<u8> {
     let mut lines: Vec<&str> = lines.collect();
     lines[2] = levels;
     lines.concat().into_bytes()
+}
+
+/// The largest number of slim sets of a query, 0 where there is none.
+fn most_slim(answers: &str) -> usize {
+    let counts = answers.lines().filter_map(|line| line.strip_prefix("slim="));
+    counts.map(|count| count.parse().expect("a number")).max().unwrap_or(0)
 }
 
 /// The lines but those of the rules fired.

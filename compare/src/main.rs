@@ -7,6 +7,7 @@ mod engine;
 mod forms;
 mod generate;
 mod levels;
+mod longest;
 mod policy;
 mod probe;
 mod random;
@@ -25,11 +26,12 @@ const USAGE: &str = "usage: compare run                    what clear prints for
        compare probe                  what probe prints for it
        compare levels                 what levels prints for it
        compare rewrite                what rewrite prints for it
+       compare longest                what longest prints
        compare make SEED N            file number N of a seed
        compare make-levels SEED N     file number N of a seed among those for the levels
        compare compare SEED PART ...  each part one of: clear CLEAR COUNT, probe PROBE COUNT,
                                       levels LEVELS COUNT, mended LEVELS CLEAR COUNT,
-                                      rewrite REWRITE COUNT
+                                      rewrite REWRITE COUNT, longest LONGEST CLEAR PROBE
        compare bench CLEAR LEVELS REWRITE [BEFORE]
                                       times of hard files; BEFORE is an earlier build of clear";
 
@@ -53,6 +55,7 @@ fn work(arguments: &[&str]) -> io::Result<bool> {
         ["probe"] => io::stdout().write_all(probe::probe(&input()?).as_bytes())?,
         ["levels"] => io::stdout().write_all(levels::levels(&input()?).as_bytes())?,
         ["rewrite"] => io::stdout().write_all(writer::rewrite(&input()?).as_bytes())?,
+        ["longest"] => io::stdout().write_all(&longest::longest())?,
         ["make", seed, number] => {
             io::stdout().write_all(&generate::file(parse(seed)?, parse(number)?))?;
         }
@@ -92,6 +95,10 @@ fn compare_parts(comparison: &mut Comparison, mut parts: &[&str]) -> io::Result<
             }
             ["rewrite", rewrite, count, ref rest @ ..] => {
                 comparison.rewrite(rewrite, parse(count)?)?;
+                rest
+            }
+            ["longest", longest, clear, probe, ref rest @ ..] => {
+                comparison.longest(longest, clear, probe)?;
                 rest
             }
             _ => return Err(usage()),

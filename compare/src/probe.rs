@@ -7,6 +7,7 @@ use crate::policy::{Action, Policy, Query, Refusal, Rule, MOST_DECISIONS, MOST_Q
 use crate::run::commas;
 use crate::{reader, writer};
 
+/// With more actions the lines are few.
 const MOST_ACTIONS: usize = 8;
 /// The bytes lent to write what is spoilt; no accepted file is longer.
 const LENT: usize = 27_300;
@@ -17,7 +18,7 @@ pub fn probe(input: &[u8]) -> String {
         Ok(read) => read,
     };
     if policy.actions.len() > MOST_ACTIONS {
-        return "too many actions\n".to_string();
+        return many_actions(&policy, &queries);
     }
     let mut text = format!("check={}\n{}\n", number(check(&policy)), levels(&policy));
     for length in [0, input.len() - 1, input.len(), input.len() + 3] {
@@ -25,7 +26,7 @@ pub fn probe(input: &[u8]) -> String {
     }
     let mut engine = Engine::new(&policy);
     for query in &queries {
-        text += &format!("query want={} done={}\n", query.want, query.done);
+        text += &named(query);
         text += &offers(&mut engine, query, 1 << policy.actions.len());
         text += &lists(&mut engine, query);
         let over = Query { want: policy.levels.len() as u32, done: query.done };
@@ -44,6 +45,32 @@ pub fn probe(input: &[u8]) -> String {
         text += &spoilt_queries(&policy, &queries);
     }
     text
+}
+
+/// Of each query Choose, and List with a place for every slim set and with one place fewer.
+fn many_actions(policy: &Policy, queries: &[Query]) -> String {
+    let mut engine = Engine::new(policy);
+    let mut text = String::new();
+    for query in queries {
+        let count = slim(&mut engine, query);
+        text += &format!("{}choose {}\n", named(query), choose(&mut engine, query));
+        for length in count.saturating_sub(1)..=count {
+            text += &format!("list {length} {}\n", list(&mut engine, query, length));
+        }
+    }
+    text
+}
+
+fn named(query: &Query) -> String {
+    format!("query want={} done={}\n", query.want, query.done)
+}
+
+/// The number of slim sets that Choose gives, 0 where there is none or it is refused.
+fn slim(engine: &mut Engine, query: &Query) -> usize {
+    match engine.choose(query) {
+        Ok(Some(choice)) => choice.slim,
+        _ => 0,
+    }
 }
 
 fn number(answer: Result<(), Refusal>) -> Refusal {
@@ -71,10 +98,7 @@ fn offers(engine: &mut Engine, query: &Query, over: u32) -> String {
 
 /// Choose, and List with each length up to one more than the slim sets take.
 fn lists(engine: &mut Engine, query: &Query) -> String {
-    let count = match engine.choose(query) {
-        Ok(Some(choice)) => choice.slim,
-        _ => 0,
-    };
+    let count = slim(engine, query);
     let mut text = format!("choose {}\n", choose(engine, query));
     for length in 0..=count + 1 {
         text += &format!("list {length} {}\n", list(engine, query, length));

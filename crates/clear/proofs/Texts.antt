@@ -12,6 +12,7 @@ use Rattle.engine.specs.declared.Answer.the-variants.{Refused as choose-refused
 use Rattle.engine.specs.declared.Choice.{Choice}
 use Rattle.engine.specs.declared.Firing.{Firing}
 use Rattle.engine.specs.declared.Listing.the-variants.{Refused as list-refused, Listed}
+use Rattle.engine.specs.Sets.{mostSlim}
 use Rattle.engine.specs.Calls.{refusedOr, slimSets, listQuestions, chooseOf, listOf, listAfter}
 use Rattle.reader.specs.Text.{ascii, decimal}
 use Rattle.reader.specs.Written.{lineOf, commas}
@@ -48,12 +49,12 @@ module _ (p : Policy) (q : Query) where
       ∙ below s before (firstNo (listQuestions p q places))
 
   -- so they are those of the definition
-  lent-same : (before : List ℕ) → length before ≡ 32768 → take (written (listOf p q 32768)) (listAfter p q before) ≡ setsListed p q
+  lent-same : (before : List ℕ) → length before ≡ mostSlim → take (written (listOf p q mostSlim)) (listAfter p q before) ≡ setsListed p q
   unfolding setsListed
-  lent-same before e = lent before 32768 e ∙ sym (lent (replicate 32768 0) 32768 (length-replicate {A = ℕ} 32768 0))
+  lent-same before e = lent before mostSlim e ∙ sym (lent (replicate mostSlim 0) mostSlim (length-replicate {A = ℕ} mostSlim 0))
 
   -- where Choose names a set, the sets listed and the rules fired are those of the definition
-  listed-same : (r : QueryResult) (before after : List ℕ) → length before ≡ 32768 → (best : ℕ) → ForBest p q best r before after
+  listed-same : (r : QueryResult) (before after : List ℕ) → length before ≡ mostSlim → (best : ℕ) → ForBest p q best r before after
       → take (written (r .listing)) after ≡ setsListed p q
   listed-same r before after e best b = rw (b .listing, b .listed, e) (lent-same before e)
 
@@ -63,7 +64,7 @@ module _ (p : Policy) (q : Query) where
   fired-same r before after best b = ap (λ (f : Firing). take (f .count) (f .rules)) (b .firing)
 
   -- where Choose answers this, the lines are those of its answer
-  lines-by : (r : QueryResult) (before after : List ℕ) → length before ≡ 32768 → Worked p q r before after
+  lines-by : (r : QueryResult) (before after : List ℕ) → length before ≡ mostSlim → Worked p q r before after
       → (a : Answer) → chooseOf p q ≡ a
       → answerText a (take (written (r .listing)) after) (λ _. take (r .firing .count) (r .firing .rules))
       ≡ answerText a (setsListed p q) (rulesFired p q)
@@ -75,7 +76,7 @@ module _ (p : Policy) (q : Query) where
       rw (listed-same r before after e (c .mask) b, fired-same r before after (c .mask) b)
 
   -- the text of a result
-  pub same-result : (r : QueryResult) (before after : List ℕ) → length before ≡ 32768 → Worked p q r before after
+  pub same-result : (r : QueryResult) (before after : List ℕ) → length before ≡ mostSlim → Worked p q r before after
       → lineOf (ascii "want") (decimal (r .want))
       ++ answerText (r .answer) (take (written (r .listing)) after) (λ _. take (r .firing .count) (r .firing .rules))
       ≡ textOf p q

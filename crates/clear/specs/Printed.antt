@@ -8,6 +8,7 @@ use Rattle.engine.specs.declared.Answer.{Answer}
 use Rattle.engine.specs.declared.Answer.the-variants.{Refused as choose-refused, None, Chosen}
 use Rattle.engine.specs.declared.Listing.{Listing}
 use Rattle.engine.specs.declared.Listing.the-variants.{Refused as list-refused, Listed}
+use Rattle.engine.specs.Sets.{mostSlim}
 use Rattle.engine.specs.Calls.{chooseOf, listOf, listAfter, fireOf}
 use Rattle.reader.specs.Text.{ascii, decimal}
 use Rattle.reader.specs.Written.{lineOf, commas}
@@ -30,9 +31,9 @@ answerText (Chosen c) sets rules =
     ++ lineOf (ascii "fired") (commas (rules (c .mask))))))
 
 module _ (p : Policy) (q : Query) where
-  -- the sets that List writes into 32,768 places: the entries below the number that it returns
+  -- the sets that List writes into 12,870 places: the entries below the number that it returns
   unfoldable pub setsListed : List ℕ
-  setsListed = take (written (listOf p q 32768)) (listAfter p q (replicate 32768 0))
+  setsListed = take (written (listOf p q mostSlim)) (listAfter p q (replicate mostSlim 0))
 
   -- the rules that Fire names for a set: the entries below its count
   unfoldable pub rulesFired : ℕ → List ℕ

@@ -2,11 +2,13 @@
 ghost use Prim.Native.Nat.{_≤_};
 ghost use mathlib.Core.Path.{_≡_};
 ghost use lib.ListN.{length};
+ghost use Rattle.engine.specs.Sets.{mostSlim};
 use crate::out::entry;
 use crate::out::keyed;
 use crate::out::text;
 use engine::Answer;
 use engine::Listing;
+use engine::MOST_SLIM;
 use engine::Verdict;
 use policy::Policy;
 use policy::Query;
@@ -90,12 +92,12 @@ pub(crate) fn choose(policy: Policy, query: Query) -> u32 {
 }
 
 // Places of which place i holds 50000 + i.
-fn filled() -> [u16; 300]
-    ensures { λ r. ⌜ 300 ≡ length r ⌝ }
+fn filled() -> [u16; MOST_SLIM]
+    ensures { λ r. ⌜ mostSlim ≡ length r ⌝ }
 {
-    let mut places = [0u16; 300];
+    let mut places = [0u16; MOST_SLIM];
     let mut n = 50000;
-    for i in 0..300 {
+    for i in 0..MOST_SLIM {
         places[i] = n;
         n += 1;
     }
@@ -124,7 +126,7 @@ fn listed(policy: Policy, query: Query, places: &mut [u16]) {
 
 // Writes what list returns for a list of so many places, and these places.
 pub(crate) fn list(policy: Policy, query: Query, length: usize)
-    requires { ⌜ length ≤ 300 ⌝ }
+    requires { ⌜ length ≤ mostSlim ⌝ }
 {
     let mut places = filled();
     listed(policy, query, &mut places[..length]);

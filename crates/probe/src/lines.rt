@@ -1,8 +1,10 @@
 // The lines of one query.
 ghost use Prim.Native.Nat.{_≤_};
+ghost use Rattle.engine.specs.Sets.{mostSlim};
 use crate::calls;
 use crate::out::keyed;
 use crate::out::text;
+use engine::MOST_SLIM;
 use policy::Policy;
 use policy::Query;
 use policy::sizes::held;
@@ -34,7 +36,7 @@ fn offers(policy: Policy, query: Query) {
 
 // Writes the line of a list of so many places.
 fn list(policy: Policy, query: Query, length: usize)
-    requires { ⌜ length ≤ 300 ⌝ }
+    requires { ⌜ length ≤ mostSlim ⌝ }
 {
     keyed(b"list ", length as u32);
     text(b" ");
@@ -72,15 +74,37 @@ fn over(policy: Policy, query: Query, name: &[u8]) {
     text(b"\n");
 }
 
-// Writes the lines of a query.
-pub(crate) fn of(policy: Policy, query: Query) {
+// Writes the line that names a query.
+fn named(query: Query) {
     keyed(b"query want=", query.want as u32);
     keyed(b" done=", query.done as u32);
     text(b"\n");
-    offers(policy, query);
+}
+
+// Writes the line of the best set, and hands back the number of slim sets.
+fn choose(policy: Policy, query: Query) -> u32 {
     text(b"choose ");
     let slim = calls::choose(policy, query);
     text(b"\n");
+    slim
+}
+
+// Writes the lines of a query of a policy with many actions: the best set, and the lists with a place for every slim set and
+// with one place fewer.
+pub(crate) fn of_many(policy: Policy, query: Query) {
+    named(query);
+    let slim = held(choose(policy, query) as usize, MOST_SLIM);
+    if slim != 0 {
+        list(policy, query, slim - 1);
+    }
+    list(policy, query, slim);
+}
+
+// Writes the lines of a query.
+pub(crate) fn of(policy: Policy, query: Query) {
+    named(query);
+    offers(policy, query);
+    let slim = choose(policy, query);
     lists(policy, query, slim);
     let mut far = query;
     far.want = policy.decisions;

@@ -35,6 +35,18 @@ fn answer(policy: Policy, queries: Queries) {
     }
 }
 
+// Writes the lines of a file with more than 8 actions: those of each query, and few of these.
+fn answer_many(policy: Policy, queries: Queries) {
+    let query = queries.at;
+    let count = held(queries.count as usize, 64);
+    let mut i = 0;
+    while i < count {
+        let one = query[i];
+        lines::of_many(policy, one);
+        i += 1;
+    }
+}
+
 fn main() {
     let mut input = [0u8; 32769];
     let n = io::read_full(0, &mut input);
@@ -45,10 +57,10 @@ fn main() {
         return;
     }
     let policy = reading.policy;
+    let queries = reading.queries;
     if policy.actions > 8 {
-        text(b"too many actions\n");
+        answer_many(policy, queries);
         return;
     }
-    let queries = reading.queries;
     answer(policy, queries);
 }

@@ -1,4 +1,4 @@
--- The text of every query fits the 200,000 bytes of the program's buffer.
+-- The text of every query fits the 80,000 bytes of the program's buffer.
 use Prim.Native.Nat.{ℕ, _^_, _≤_}
 use mathlib.Core.List.{List}
 use native.Mathlib.Decide.{ℕ-discrete}
@@ -25,7 +25,7 @@ use Rattle.clear.specs.Laws.Listed.{lists-slim}
 
 -- the lines of an answer, where its sets take so many bytes and there are at most 128 rules
 answer-length : (a : Answer) (sets : List ℕ) (rules : ℕ → List ℕ)
-    → length (commas sets) ≤ 196608 → ((s : ℕ) → length (rules s) ≤ 128) → length (answerText a sets rules) ≤ 199000
+    → length (commas sets) ≤ 77220 → ((s : ℕ) → length (rules s) ≤ 128) → length (answerText a sets rules) ≤ 79000
 unfolding answerText refusedText
 answer-length (choose-refused n) sets rules few each = simp line-length (omega (arith, ten-digits n))
 answer-length None sets rules few each = simp line-length (omega arith)
@@ -42,7 +42,7 @@ answer-length (Chosen c) sets rules few each =
 
 module _ (p : Policy) (q : Query) where
   -- a set has at most five digits
-  sets-length : Accepted p q → length (commas (setsListed p q)) ≤ 196608
+  sets-length : Accepted p q → length (commas (setsListed p q)) ≤ 77220
   unfolding slimSets
   sets-length ok =
       let small = pow-mono (accepted-range p q ok .actions) in
@@ -54,7 +54,7 @@ module _ (p : Policy) (q : Query) where
   unfolding rulesFired
   rules-length s = omega (arith, length-take (fireOf p q s .count) (fireOf p q s .rules), fire-places p q s)
 
-  answer-fits : length (answerText (chooseOf p q) (setsListed p q) (rulesFired p q)) ≤ 199000
+  answer-fits : length (answerText (chooseOf p q) (setsListed p q) (rulesFired p q)) ≤ 79000
   unfolding answerText refusedText chooseOf Accepted
   answer-fits = elim (ℕ-discrete (firstNo (queryQuestions p q)) 0) [
     | yes ok ↦ answer-length (chooseOf p q) (setsListed p q) (rulesFired p q) (sets-length ok) rules-length
@@ -62,6 +62,6 @@ module _ (p : Policy) (q : Query) where
         (omega (arith, ten-digits (firstNo (queryQuestions p q))))
   ]
 
-  pub text-fits : length (textOf p q) ≤ 200000
+  pub text-fits : length (textOf p q) ≤ 80000
   unfolding textOf
   text-fits = simp (length-append, line-length) (omega (arith, ten-digits (q .want), answer-fits))

@@ -45,8 +45,8 @@ module _ (p : Policy) (qs : Queries) (ok : AcceptedRecord p qs) where
   pub short : length (fileText p qs) ≤ 27294
   short = file-short p (qs .count) (qs .at) (ok .policy) (ok .queries) few (is-true _ (known .range)) (is-true _ (known .rise)) each-query
 
-  read : readOf (fileText p qs) ≡ clearedReading p (qs .count) (qs .at)
-  read = reads-back p (qs .count) (qs .at) (ok .policy) (ok .queries) few (is-true _ (known .range)) (is-true _ (known .rise))
+  pub reads-written : readOf (fileText p qs) ≡ clearedReading p (qs .count) (qs .at)
+  reads-written = reads-back p (qs .count) (qs .at) (ok .policy) (ok .queries) few (is-true _ (known .range)) (is-true _ (known .rise))
       each-query (is-true _ (known .levels)) (is-true _ (known .weights))
 
 -- what is written where no question is answered no
@@ -75,7 +75,7 @@ write-means p qs before held = go (firstNo (writeQuestions p qs (length before))
           refl,
           front,
           drop-at file (drop (length file) before) (length file) refl,
-          rw front (read p qs (held (answered-before p qs (length before) e))),
+          rw front (reads-written p qs (held (answered-before p qs (length before) e))),
         )
     go (suc n) e = ((e, λ z. omega arith), refl)
 

@@ -20,7 +20,7 @@ returns c =
     let a = s .args in
     let same = same-result (a .policy) (a .query) (w .work .result) (now (a .places)) _ (s .pre .1) (w .work .ensures .0) in
     let put = same-text (both (want .line .ensures) (rest .put-answer .ensures)) same in
-    let all = whole 200000 (s .pre .0) (omega (arith, text-fits (a .policy) (a .query))) put in
+    let all = whole 80000 (s .pre .0) (omega (arith, text-fits (a .policy) (a .query))) put in
     (all .0, (all .1 .0, (all .1 .1, w .work .ensures .1 ∙ s .pre .1)))
 
 pub put-result-spec : {M : Type 1} → statement M

@@ -4,17 +4,18 @@ use mathlib.Core.Path.{_≡_, sym}
 use native.Mathlib.Omega.{arith}
 use borrow.Author.Needs.{needs}
 use lib.ListN.{length, length-replicate}
+use Rattle.engine.specs.Sets.{mostSlim}
 use Rattle.probe.proofs.calls.filled.Statement.{statement}
 use Rattle.probe.proofs.calls.filled.Tie as tie
 
 abbrev Inv-loop : tie.InvT-loop
-Inv-loop places₀ n₀ i₀ places n i = (n ≡ 50000 + i) × (300 ≡ length places)
+Inv-loop places₀ n₀ i₀ places n i = (n ≡ 50000 + i) × (mostSlim ≡ length places)
 
 abbrev μ-loop : tie.MeasureT-loop
-μ-loop places₀ n₀ i₀ places n i = 300 - i
+μ-loop places₀ n₀ i₀ places n i = mostSlim - i
 
 loop-holds : tie.Need-loop-holds Inv-loop μ-loop
-loop-holds c = (omega arith, sym (length-replicate {A = ℕ} 300 0))
+loop-holds c = (omega arith, sym (length-replicate {A = ℕ} mostSlim 0))
 
 loop-again : tie.Need-loop-again Inv-loop μ-loop
 loop-again c = (omega arith, search needs)

@@ -1,0 +1,81 @@
+-- The record is accepted, so that the writer writes its file, which is read back as the same record.
+use Prim.Native.Nat.{ℕ, _≤_, _<_}
+use mathlib.Core.Bool.{Bool, true, _&&_}
+use mathlib.Core.Path.{_≡_, refl, _∙_}
+use native.Mathlib.Omega.{arith}
+use lib.Dec.{T, eqb, eqb→eq}
+use lib.ListN.{length, take}
+use Rattle.mask.specs.Every.{every}
+use Rattle.mask.specs.Laws.Tests.{and-make, and-left, and-right, entry-at}
+use Rattle.policy.specs.declared.Rule.{Rule}
+use Rattle.policy.specs.Questions.{queryInRange}
+use Rattle.policy.specs.Laws.{Answers, firstNo-zero, answered-with, accepted as query-accepted}
+use Rattle.policy.specs.Record.{noRule, ruleOf, Eights, Sized}
+use Rattle.engine.specs.Meaning.{AllYes}
+use Rattle.reader.specs.Cleared.{cleared, clearedRule, clearedReading}
+use Rattle.reader.specs.File.{zeroRule, recordOf, readingOf, readOf}
+use Rattle.reader.specs.Format.{decisionsOf, filled}
+use Rattle.writer.specs.Claim.{AcceptedRecord}
+use Rattle.writer.specs.Writing.{queriesInRange, recordQuestions, writeQuestions}
+use Rattle.writer.specs.Laws.Room.{room}
+use Rattle.writer.specs.Laws.Saved.{short, reads-written}
+use Rattle.threshold.specs.AtLeast.{decisionsTo, number, without, fewer, having, firstFor, rulesFor, row, rows, plain}
+use Rattle.threshold.specs.AtLeast.{atLeast, eight, stated}
+use Rattle.threshold.specs.Laws.Taken.{accepted}
+use Rattle.longest.specs.Printed.{theFile}
+
+-- ---- the arrays are as long as their structs declare
+eights : Rule → Bool
+eights r = eqb (length (r .ifs .at)) 8 && eqb (length (r .unless .at)) 8
+
+all-eights : T (every eights (take (atLeast .rules) (atLeast .rule)))
+unfolding eights every atLeast recordOf decisionsOf filled decisionsTo number without fewer having firstFor rulesFor row rows
+all-eights = tt
+
+rules-long : length (atLeast .rule) ≡ 256
+unfolding atLeast recordOf filled firstFor rulesFor row rows
+rules-long = refl
+
+lists-long : (k : ℕ) → k < atLeast .rules → Eights (ruleOf atLeast k)
+unfolding eights atLeast recordOf firstFor rulesFor row rows
+lists-long k h =
+    let one = entry-at eights noRule (atLeast .rules) (atLeast .rule) all-eights k h (omega (arith, rules-long)) in
+    let r = ruleOf atLeast k in
+    let ifs = eqb (length (r .ifs .at)) 8 in
+    let unless = eqb (length (r .unless .at)) 8 in
+    (eqb→eq (length (r .ifs .at)) 8 (and-left ifs unless one), eqb→eq (length (r .unless .at)) 8 (and-right ifs unless one))
+
+sized : Sized atLeast
+unfolding atLeast recordOf filled
+sized = record { levels = refl; actions = refl; rules = rules-long; lists = lists-long }
+
+-- ---- questions 3 to 6 are answered yes
+given : Answers atLeast (queryInRange atLeast eight) → T (queriesInRange atLeast (stated .queries))
+unfolding queriesInRange every stated readingOf filled
+given known = and-make (queryInRange atLeast eight) true (known .given) tt
+
+answers : AllYes (recordQuestions atLeast (stated .queries))
+answers =
+    let known = query-accepted atLeast eight accepted in
+    firstNo-zero (recordQuestions atLeast (stated .queries))
+    (answered-with known (queriesInRange atLeast (stated .queries)) (given known))
+
+record-accepted : AcceptedRecord atLeast (stated .queries)
+unfolding stated readingOf filled
+record-accepted = record { policy = sized; queries = refl; answers = answers }
+
+-- so a buffer of 27,294 bytes or more gets the file
+pub never-refused : (places : ℕ) → 27294 ≤ places → AllYes (writeQuestions atLeast (stated .queries) places)
+never-refused places h =
+    room atLeast (stated .queries) places answers (omega (arith, short atLeast (stated .queries) record-accepted))
+
+-- zeros stand past each count
+clear : clearedReading atLeast (stated .queries .count) (stated .queries .at) ≡ stated
+unfolding stated atLeast eight decisionsTo number without fewer having firstFor rulesFor row rows plain
+    cleared clearedRule clearedReading zeroRule recordOf readingOf decisionsOf filled
+clear = refl
+
+-- and the file is read so
+pub reads : readOf theFile ≡ stated
+unfolding theFile
+reads = reads-written atLeast (stated .queries) record-accepted ∙ clear

@@ -1,0 +1,28 @@
+// The program `longest`: writes the file whose query has the most slim sets.
+ghost use Prim.Native.Nat.{_≤_};
+ghost use mathlib.Core.Path.{_≡_};
+ghost use lib.ListN.{length, take};
+ghost use Rattle.longest.specs.Printed.{theFile};
+use writer::Written;
+
+// Puts the file at the start of the buffer, and returns its length. The writer never refuses it.
+fn put_file(buffer: &mut [u8]) -> usize
+    requires { ⌜ length (now buffer) ≡ 27294 ⌝ }
+    ensures { λ r. ⌜ take r (now (buffer .exit)) ≡ theFile ⌝ }
+    ensures { λ r. ⌜ r ≤ 27294 ⌝ }
+    ensures { λ _. ⌜ length (now (buffer .exit)) ≡ 27294 ⌝ }
+{
+    let policy = threshold::policy();
+    let queries = threshold::queries();
+    let written = writer::write(policy, queries, buffer);
+    match written {
+        Written::Refused(_) => 0,
+        Written::Length(n) => n,
+    }
+}
+
+fn main() {
+    let mut buffer = [0u8; 27294];
+    let end = put_file(&mut buffer);
+    io::write_all(1, &buffer[..end]);
+}

@@ -1,0 +1,70 @@
+// The policy whose query has the most slim sets: decision by decision, "at least j of the first i actions".
+ghost use mathlib.Core.Path.{_≡_};
+ghost use Rattle.reader.specs.File.{zeroRule};
+ghost use Rattle.reader.specs.Format.{filled};
+ghost use Rattle.threshold.specs.AtLeast.{wide, plain, rows, atLeast, stated};
+use policy::Action;
+use policy::Kind;
+use policy::Policy;
+use policy::Query;
+use policy::Rule;
+use reader::Queries;
+
+mod numbers;
+mod parts;
+
+// The rules of all decisions in order, and zeros past them.
+fn rules() -> [Rule; 256]
+    ensures { λ r. ⌜ r ≡ filled 256 zeroRule (rows 16) ⌝ }
+{
+    let mut rule = [parts::zero(); 256];
+    let mut k = 0;
+    for i in 1..17 {
+        for j in 1..numbers::wide(i) + 1 {
+            if j < i {
+                rule[k] = parts::without(i, j);
+                k += 1;
+            }
+            rule[k] = parts::having(i, j);
+            k += 1;
+        }
+    }
+    rule
+}
+
+// A provision of weight 1 that does no other.
+fn plain() -> Action
+    ensures { λ r. ⌜ r ≡ plain ⌝ }
+{
+    Action {
+        kind: Kind::Provision,
+        weight: 1,
+        also: 0,
+    }
+}
+
+// The policy.
+pub fn policy() -> Policy
+    ensures { λ r. ⌜ r ≡ atLeast ⌝ }
+{
+    let level = [0u8; 128];
+    let action = [plain(); 16];
+    let rule = rules();
+    Policy {
+        decisions: 100,
+        actions: 16,
+        rules: 192,
+        level,
+        action,
+        rule,
+    }
+}
+
+// Its one query: at least 8 of 16, with nothing done.
+pub fn queries() -> Queries
+    ensures { λ r. ⌜ r ≡ stated .queries ⌝ }
+{
+    let mut at = [Query { want: 0, done: 0 }; 64];
+    at[0].want = numbers::number(16, 8);
+    Queries { count: 1, at }
+}
