@@ -30,9 +30,12 @@ unfoldable pub before : ℕ → ℕ → List Rule
 before i j = rows (i - 1) ++ row i (j - 1)
 
 -- there is room for two more
-pub room : {rule : List Rule} {k : ℕ} (i j : ℕ) → i ≤ 16 → j ≤ 8 → Filling (before i j) rule k → k ≤ 254
+before-few : (i j : ℕ) → i ≤ 16 → j ≤ 8 → length (before i j) ≤ 254
 unfolding before
-room i j h l f = omega (arith, f .count, length-append (rows (i - 1)) (row i (j - 1)), rows-few (i - 1), row-few i (j - 1))
+before-few i j h l = simp length-append (omega (arith, rows-few (i - 1), row-few i (j - 1)))
+
+pub room : {rule : List Rule} {k : ℕ} (i j : ℕ) → i ≤ 16 → j ≤ 8 → Filling (before i j) rule k → k ≤ 254
+room i j h l f = omega (arith, f .count, before-few i j h l)
 
 -- no rule yet
 pub none-yet : {r : Rule} → r ≡ zeroRule → Filling (rows 0) (replicate 256 r) 0
@@ -56,16 +59,8 @@ first-none i j f over = rw (is-false (ltb j i) (λ t. omega (arith, ltb→lt j i
 
 -- there is room for the second
 pub second-room : {rule : List Rule} {k : ℕ} (i j : ℕ) → i ≤ 16 → j ≤ 8 → Filling (before i j ++ firstFor i j) rule k → k ≤ 255
-unfolding before
-second-room i j h l f = omega (
-  arith,
-  f .count,
-  length-append (rows (i - 1) ++ row i (j - 1)) (firstFor i j),
-  length-append (rows (i - 1)) (row i (j - 1)),
-  rows-few (i - 1),
-  row-few i (j - 1),
-  first-few i j,
-)
+second-room i j h l f =
+    omega (arith, f .count, length-append (before i j) (firstFor i j), before-few i j h l, first-few i j)
 
 -- and with it the decision's rules are there
 row-step : (i j : ℕ) → 1 ≤ j → row i j ≡ row i (j - 1) ++ rulesFor i j
