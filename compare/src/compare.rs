@@ -1,6 +1,6 @@
 //! Runs the files of a seed through a program and through the engine here, and compares what they print.
 
-use crate::generate::{file, levels_file};
+use crate::generate::{file, levels_file, words_file};
 use crate::levels::{is_lowest, levels, lowest, MOST_TRIED};
 use crate::longest::{longest, sets_of};
 use crate::probe::probe;
@@ -60,6 +60,18 @@ impl Comparison {
         let numbers = (0..).filter(meant).take(count as usize);
         let tally = self.each("", program, file, numbers, |_, input| probe(input))?;
         self.tell(&format!("probe: {}", tally.text()));
+        Ok(())
+    }
+
+    /// The first files for the words, by what the probe prints.
+    pub fn words(&mut self, program: &str, count: u64) -> io::Result<()> {
+        let mut queries = 0;
+        let tally = self.each("words-", program, words_file, 0..count, |_, input| {
+            let due = probe(input);
+            queries += due.matches("query ").count();
+            due
+        })?;
+        self.tell(&format!("words: {}, {queries} queries", tally.text()));
         Ok(())
     }
 

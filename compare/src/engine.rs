@@ -5,7 +5,7 @@ use crate::policy::{ask, has, Policy, Query, Refusal, MOST_DECISIONS, TOP_LEVEL}
 use std::iter::successors;
 
 /// A set of decisions: decision d is in it when bit d is 1.
-type Decisions = u128;
+pub type Decisions = u128;
 
 /// A rule with its decisions as sets, for the rounds of a model.
 struct SetRule {
@@ -22,7 +22,7 @@ pub struct Choice {
 }
 
 pub struct Engine<'a> {
-    policy: &'a Policy,
+    pub policy: &'a Policy,
     /// For each action what it reaches, itself too.
     reached: Vec<u32>,
     /// The rules by the level of their heads.
@@ -43,19 +43,19 @@ impl<'a> Engine<'a> {
     }
 
     /// Questions 3 to 6 as a call puts them: 3 to the whole of policy, query and offered set.
-    fn questions(&self, query: &Query, set: u32) -> Result<(), Refusal> {
+    pub fn questions(&self, query: &Query, set: u32) -> Result<(), Refusal> {
         let policy = self.policy;
         ask(3, policy.in_range() && policy.is_query(query) && policy.is_mask(set))?;
         policy.ordered()
     }
 
     /// What the actions in done and the set reach.
-    fn world(&self, done: u32, set: u32) -> u32 {
+    pub fn world(&self, done: u32, set: u32) -> u32 {
         join(&self.reached, done | set)
     }
 
     /// Stratum by stratum, in rounds: a round adds the heads of all rules that the round before it satisfies.
-    fn model(&mut self, world: u32) -> Decisions {
+    pub fn model(&mut self, world: u32) -> Decisions {
         if let Some(model) = self.models[world as usize] {
             return model;
         }

@@ -14,6 +14,11 @@ pub fn forms(rng: &mut Rng) -> Case {
         1 => rng.within(9, 15),
         _ => rng.within(2, 8),
     };
+    forms_of(rng, count, if count > 8 { 1 } else { 3 })
+}
+
+/// The same with so many forms, and with at most so many levels above them.
+pub fn forms_of(rng: &mut Rng, count: usize, most: usize) -> Case {
     let mut numbers: Vec<usize> = (0..count).collect();
     rng.reorder(&mut numbers);
     let inside = inside(rng, count);
@@ -22,7 +27,7 @@ pub fn forms(rng: &mut Rng) -> Case {
         policy.rules.push(Rule { head: form as u32, needs: 1 << number, ..Rule::default() });
     }
     let mut queries = vec![Query { want: count as u32 - 1, done: 0 }];
-    for level in 1..=if count > 8 { 1 } else { rng.within(1, 3) } {
+    for level in 1..=if most == 1 { 1 } else { rng.within(1, most) } {
         let want = policy.levels.len() as u32;
         policy.levels.push(level as u32);
         for _ in 0..rng.within(1, 3) {

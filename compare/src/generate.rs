@@ -1,7 +1,9 @@
 //! The files of a seed: valid ones, ones at the edges of each question, damaged ones, random bytes, and ones about
-//! as long as a file may be; and beside them files for the levels. File number n of a seed is always the same.
+//! as long as a file may be; and beside them files for the levels and for the words. File number n of a seed is always
+//! the same.
 
 use crate::edges::edge;
+use crate::many::many_actions;
 use crate::random::{small, Case};
 use crate::reader::read;
 use crate::rng::Rng;
@@ -35,6 +37,11 @@ pub fn levels_file(seed: u64, number: u64) -> Vec<u8> {
         let index = 3 * round + place - 6;
         file(seed, 20 * (index / 11) + 9 + index % 11)
     }
+}
+
+/// Each file for the words is valid, and has more actions than the small ones that the probe is meant for.
+pub fn words_file(seed: u64, number: u64) -> Vec<u8> {
+    accepted(&many_actions(&mut Rng::new(seed, !number), number))
 }
 
 /// The file of a case that is valid. The reader here must accept it.

@@ -1,13 +1,17 @@
 //! An engine outside the proofs, written from the documents and run against the proved one.
 
+mod asp;
 mod bench;
+mod clock;
 mod compare;
 mod edges;
 mod engine;
 mod forms;
 mod generate;
+mod hard;
 mod levels;
 mod longest;
+mod many;
 mod policy;
 mod probe;
 mod random;
@@ -16,6 +20,7 @@ mod rng;
 mod run;
 mod shapes;
 mod unlevelled;
+mod words;
 mod writer;
 
 use compare::Comparison;
@@ -27,10 +32,13 @@ const USAGE: &str = "usage: compare run                    what clear prints for
        compare levels                 what levels prints for it
        compare rewrite                what rewrite prints for it
        compare longest                what longest prints
+       compare asp                    the first query of standard input as a program for clingo
+       compare hard N                 hard file number N of the bench, from 0, or nothing past the last
        compare make SEED N            file number N of a seed
        compare make-levels SEED N     file number N of a seed among those for the levels
+       compare make-words SEED N      file number N of a seed among those for the words
        compare compare SEED PART ...  each part one of: clear CLEAR COUNT, probe PROBE COUNT,
-                                      levels LEVELS COUNT, mended LEVELS CLEAR COUNT,
+                                      words PROBE COUNT, levels LEVELS COUNT, mended LEVELS CLEAR COUNT,
                                       rewrite REWRITE COUNT, longest LONGEST CLEAR PROBE
        compare bench CLEAR LEVELS REWRITE [BEFORE]
                                       times of hard files; BEFORE is an earlier build of clear";
@@ -56,11 +64,16 @@ fn work(arguments: &[&str]) -> io::Result<bool> {
         ["levels"] => io::stdout().write_all(levels::levels(&input()?).as_bytes())?,
         ["rewrite"] => io::stdout().write_all(writer::rewrite(&input()?).as_bytes())?,
         ["longest"] => io::stdout().write_all(&longest::longest())?,
+        ["asp"] => io::stdout().write_all(asp::asp(&input()?).as_bytes())?,
+        ["hard", number] => io::stdout().write_all(&hard::file(parse(number)?))?,
         ["make", seed, number] => {
             io::stdout().write_all(&generate::file(parse(seed)?, parse(number)?))?;
         }
         ["make-levels", seed, number] => {
             io::stdout().write_all(&generate::levels_file(parse(seed)?, parse(number)?))?;
+        }
+        ["make-words", seed, number] => {
+            io::stdout().write_all(&generate::words_file(parse(seed)?, parse(number)?))?;
         }
         ["compare", seed, ref parts @ ..] => {
             let mut comparison = Comparison::new(parse(seed)?);
@@ -83,6 +96,10 @@ fn compare_parts(comparison: &mut Comparison, mut parts: &[&str]) -> io::Result<
             }
             ["probe", probe, count, ref rest @ ..] => {
                 comparison.probe(probe, parse(count)?)?;
+                rest
+            }
+            ["words", probe, count, ref rest @ ..] => {
+                comparison.words(probe, parse(count)?)?;
                 rest
             }
             ["levels", levels, count, ref rest @ ..] => {

@@ -1,10 +1,11 @@
 //! What the program `probe` prints for a file: the answers of each call to every set offered, to lists of each
-//! length, to buffers of several lengths, to queries out of range and to spoilt policies.
+//! length, to each w, to buffers of several lengths, to queries out of range and to spoilt policies.
 
 use crate::engine::{check, Engine};
 use crate::levels::lowest;
 use crate::policy::{Action, Policy, Query, Refusal, Rule, MOST_DECISIONS, MOST_QUERIES};
 use crate::run::commas;
+use crate::words::{SETS, TOP_W};
 use crate::{reader, writer};
 
 /// With more actions the lines are few.
@@ -29,6 +30,7 @@ pub fn probe(input: &[u8]) -> String {
         text += &named(query);
         text += &offers(&mut engine, query, 1 << policy.actions.len());
         text += &lists(&mut engine, query);
+        text += &each_w(&mut engine, query, 1 << policy.actions.len());
         let over = Query { want: policy.levels.len() as u32, done: query.done };
         text += &out_of_range(&mut engine, "want", &over);
         let over = Query { want: query.want, done: 1 << policy.actions.len() };
@@ -36,18 +38,15 @@ pub fn probe(input: &[u8]) -> String {
     }
     if let Some(query) = queries.first() {
         for (name, spoilt) in spoilt(&policy) {
-            let mut engine = Engine::new(&spoilt);
-            let (judge, choose) = (judge(&mut engine, query, 0), choose(&mut engine, query));
-            let (check, levels) = (number(check(&spoilt)), levels(&spoilt));
-            let write = write(&spoilt, &queries, LENT);
-            text += &format!("spoilt {name} check={check} judge {judge} choose {choose} {levels} write {write}\n");
+            text += &format!("spoilt {name} {}\n", calls(&spoilt, query, &queries));
         }
         text += &spoilt_queries(&policy, &queries);
     }
     text
 }
 
-/// Of each query Choose, and List with a place for every slim set and with one place fewer.
+/// Of each query Choose, List with a place for every slim set and with one place fewer, and words: those of few w, and
+/// all in one number.
 fn many_actions(policy: &Policy, queries: &[Query]) -> String {
     let mut engine = Engine::new(policy);
     let mut text = String::new();
@@ -57,8 +56,32 @@ fn many_actions(policy: &Policy, queries: &[Query]) -> String {
         for length in count.saturating_sub(1)..=count {
             text += &format!("list {length} {}\n", list(&mut engine, query, length));
         }
+        for w in [0, 1, TOP_W, TOP_W + 1] {
+            text += &format!("words {w} {}\n", words(&mut engine, query, w));
+        }
+        text += &format!("digest={}\n", digest(&mut engine, query));
     }
     text
+}
+
+/// The words of each w in turn, one decision after the other; the query is accepted.
+fn digest(engine: &mut Engine, query: &Query) -> u64 {
+    let words = (0..=TOP_W).flat_map(|w| engine.words(query, w).expect("an accepted query"));
+    words.fold(0, |digest: u64, word| {
+        let digest = digest ^ word;
+        let digest = digest ^ digest << 13;
+        let digest = digest ^ digest >> 7;
+        digest ^ digest << 17
+    })
+}
+
+/// The calls put to a spoilt policy with a query, and the policy written with all queries.
+fn calls(policy: &Policy, query: &Query, queries: &[Query]) -> String {
+    let mut engine = Engine::new(policy);
+    let (judge, choose) = (judge(&mut engine, query, 0), choose(&mut engine, query));
+    let (words, late) = (words(&mut engine, query, 0), words(&mut engine, query, TOP_W + 1));
+    let (check, levels, write) = (number(check(policy)), levels(policy), write(policy, queries, LENT));
+    format!("check={check} judge {judge} choose {choose} words {words} late {late} {levels} write {write}")
 }
 
 fn named(query: &Query) -> String {
@@ -106,12 +129,20 @@ fn lists(engine: &mut Engine, query: &Query) -> String {
     text
 }
 
+/// Each w up to the first that has none of so many sets, then the last w, and two past it.
+fn each_w(engine: &mut Engine, query: &Query, sets: u32) -> String {
+    let first_over = (sets / SETS).max(1);
+    let lines = (0..=first_over).chain([TOP_W, TOP_W + 1, 65_535]);
+    lines.map(|w| format!("words {w} {}\n", words(engine, query, w))).collect()
+}
+
 fn out_of_range(engine: &mut Engine, name: &str, query: &Query) -> String {
     let (judge, fire) = (judge(engine, query, 0), fire(engine, query, 0));
     let (choose, list) = (choose(engine, query), list(engine, query, 4));
+    let words = words(engine, query, 0);
     format!(
         "{name} over judge {judge}\n{name} over fire {fire}\n\
-         {name} over choose {choose}\n{name} over list {list}\n"
+         {name} over choose {choose}\n{name} over list {list}\n{name} over words {words}\n"
     )
 }
 
@@ -148,6 +179,17 @@ fn list(engine: &mut Engine, query: &Query, length: usize) -> String {
         Ok(count) => format!("count={count}"),
     };
     format!("{answer} places={}", commas(&lent))
+}
+
+/// The words below the decision count, each 0 where the call is refused, and how many of the others are not 0.
+fn words(engine: &mut Engine, query: &Query, w: u32) -> String {
+    let (refusal, words) = match engine.words(query, w) {
+        Err(number) => (number, [0; MOST_DECISIONS]),
+        Ok(words) => (0, words),
+    };
+    let (below, past) = words.split_at(engine.policy.levels.len().min(MOST_DECISIONS));
+    let tail = past.iter().filter(|&&word| word != 0).count();
+    format!("refusal={refusal} word={} tail={tail}", commas(below))
 }
 
 /// The writer on so many bytes `*`. Shown afterwards are the file and the next three bytes, as far as there are any.

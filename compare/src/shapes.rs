@@ -153,9 +153,13 @@ fn all_of_several(rng: &mut Rng) -> Case {
     Case { policy, queries }
 }
 
-/// Up to 16 levels, each decision unless the one below it or with an action.
 fn tower(rng: &mut Rng) -> Case {
     let (height, count) = (rng.within(2, 16), rng.within(1, 6));
+    tower_of(rng, height, count)
+}
+
+/// Up to 16 levels, each decision unless the one below it or with an action.
+pub fn tower_of(rng: &mut Rng, height: usize, count: usize) -> Case {
     let mut policy = Policy { levels: (0..height as u32).collect(), actions: actions(rng, count), rules: Vec::new() };
     for head in 0..height as u32 {
         let below: Vec<u32> = (0..head).rev().take(1).collect();

@@ -5,6 +5,7 @@ ghost use lib.ListN.{length};
 ghost use Rattle.engine.specs.Sets.{mostSlim};
 use crate::out::entry;
 use crate::out::keyed;
+use crate::out::long_entry;
 use crate::out::text;
 use engine::Answer;
 use engine::Listing;
@@ -68,6 +69,60 @@ pub(crate) fn levels(policy: Policy) {
     keyed(b"refusal=", found.refusal as u32);
     text(b" level=");
     below(level, 128);
+}
+
+// Writes the words below the count.
+fn words_below(word: [u64; 128], count: usize) {
+    for d in 0..128 {
+        if d < count {
+            long_entry(d, word[d]);
+        }
+    }
+}
+
+// The number of words at or past the count that are not 0.
+fn words_past(word: [u64; 128], count: usize) -> u32 {
+    let mut n = 0;
+    for d in count..128 {
+        if word[d] != 0 {
+            n += 1;
+        }
+    }
+    n
+}
+
+// Writes what words returns.
+pub(crate) fn words(policy: Policy, query: Query, w: u16) {
+    let found = engine::words(policy, query, w);
+    let word = found.word;
+    let count = policy.decisions as usize;
+    keyed(b"refusal=", found.refusal as u32);
+    text(b" word=");
+    words_below(word, count);
+    keyed(b" tail=", words_past(word, count));
+}
+
+// The number so far, mixed with each word.
+fn mixed(n: u64, word: [u64; 128]) -> u64 {
+    let mut mix = n;
+    for d in 0..128 {
+        mix = mix ^ word[d];
+        mix = mix ^ (mix << 13);
+        mix = mix ^ (mix >> 7);
+        mix = mix ^ (mix << 17);
+    }
+    mix
+}
+
+// A number made from the words of every w.
+pub(crate) fn digest(policy: Policy, query: Query) -> u64 {
+    let mut n = 0;
+    for w in 0..1024 {
+        let found = engine::words(policy, query, w);
+        let word = found.word;
+        n = mixed(n, word);
+    }
+    n
 }
 
 // Writes what choose returns, and hands back the number of slim sets in it.

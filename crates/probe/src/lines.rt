@@ -3,6 +3,7 @@ ghost use Prim.Native.Nat.{_≤_};
 ghost use Rattle.engine.specs.Sets.{mostSlim};
 use crate::calls;
 use crate::out::keyed;
+use crate::out::long;
 use crate::out::text;
 use engine::MOST_SLIM;
 use policy::Policy;
@@ -54,6 +55,31 @@ fn lists(policy: Policy, query: Query, slim: u32) {
     }
 }
 
+// Writes the line of the word w.
+fn word(policy: Policy, query: Query, w: u16) {
+    keyed(b"words ", w as u32);
+    text(b" ");
+    calls::words(policy, query, w);
+    text(b"\n");
+}
+
+// The first w that has no set of so many actions, or with 16 the last.
+fn past_word(actions: u8) -> u16 {
+    let sets = past(actions);
+    if sets < 64 { 1 } else { sets / 64 }
+}
+
+// Writes the lines of each w that has sets of the policy, of the next one, and at the end of the range of w.
+fn words(policy: Policy, query: Query) {
+    let last = past_word(policy.actions);
+    for w in 0..=last {
+        word(policy, query, w);
+    }
+    word(policy, query, 1023);
+    word(policy, query, 1024);
+    word(policy, query, 65535);
+}
+
 // Writes the lines of a query out of range, under the name of what is over.
 fn over(policy: Policy, query: Query, name: &[u8]) {
     text(name);
@@ -72,6 +98,10 @@ fn over(policy: Policy, query: Query, name: &[u8]) {
     text(b" over list ");
     calls::list(policy, query, 4);
     text(b"\n");
+    text(name);
+    text(b" over words ");
+    calls::words(policy, query, 0);
+    text(b"\n");
 }
 
 // Writes the line that names a query.
@@ -89,8 +119,8 @@ fn choose(policy: Policy, query: Query) -> u32 {
     slim
 }
 
-// Writes the lines of a query of a policy with many actions: the best set, and the lists with a place for every slim set and
-// with one place fewer.
+// Writes the lines of a query of a policy with many actions: the best set, the lists with a place for every slim set and with
+// one place fewer, some words, and the digest of all.
 pub(crate) fn of_many(policy: Policy, query: Query) {
     named(query);
     let slim = held(choose(policy, query) as usize, MOST_SLIM);
@@ -98,6 +128,13 @@ pub(crate) fn of_many(policy: Policy, query: Query) {
         list(policy, query, slim - 1);
     }
     list(policy, query, slim);
+    word(policy, query, 0);
+    word(policy, query, 1);
+    word(policy, query, 1023);
+    word(policy, query, 1024);
+    text(b"digest=");
+    long(calls::digest(policy, query));
+    text(b"\n");
 }
 
 // Writes the lines of a query.
@@ -106,6 +143,7 @@ pub(crate) fn of(policy: Policy, query: Query) {
     offers(policy, query);
     let slim = choose(policy, query);
     lists(policy, query, slim);
+    words(policy, query);
     let mut far = query;
     far.want = policy.decisions;
     over(policy, far, b"want");

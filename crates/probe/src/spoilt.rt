@@ -18,6 +18,10 @@ fn line(name: &[u8], policy: Policy, query: Query, queries: Queries) {
     calls::judge(policy, query, 0);
     text(b" choose ");
     calls::choose(policy, query);
+    text(b" words ");
+    calls::words(policy, query, 0);
+    text(b" late ");
+    calls::words(policy, query, 1024);
     text(b" levels ");
     calls::levels(policy);
     text(b" write ");

@@ -1,11 +1,11 @@
 -- Entries past a count are ignored: records that agree below their counts are given the same answers.
 use Prim.Native.Nat.{ℕ, zero, suc, _≤_}
-use mathlib.Core.Bool.{Bool, true}
+use mathlib.Core.Bool.{Bool, true, _&&_}
 use mathlib.Core.List.{List, []}
 use mathlib.Core.Path.{_≡_, refl, sym, _∙_, ap}
 use native.Mathlib.Nat.{le-refl}
 use native.Mathlib.Omega.{arith}
-use lib.Dec.{T}
+use lib.Dec.{T, leb}
 use lib.ListN.{length, replicate}
 use Rattle.policy.specs.declared.Policy.{Policy}
 use Rattle.policy.specs.declared.Query.{Query}
@@ -18,6 +18,9 @@ use Rattle.model.specs.Laws.Cut.{world-cut, fired-cut}
 use Rattle.engine.specs.Sets.{weighed, costOf}
 use Rattle.engine.specs.Calls.{answer, offerInRange, offerQuestions, firedFor, enough, clears, slimSets, best, listQuestions}
 use Rattle.engine.specs.Calls.{checkOf, judgeOf, fireOf, chooseOf, listOf, listAfter}
+use Rattle.words.specs.Models.{asking}
+use Rattle.words.specs.Laws.Alike.{model-alike}
+use Rattle.engine.specs.Words.{wordQuestions, wordsOf}
 use Rattle.engine.specs.Levels.{asked, raised, lowest, levelQuestions, foundLevels}
 use Rattle.engine.specs.Laws.Levels.{rounds-same}
 use Rattle.engine.specs.Laws.Alike.{refused-same, slim-sets-alike, answer-alike}
@@ -32,6 +35,7 @@ pub record Ignored (p p′ : Policy) : Type 0 where
   pub list : (q : Query) (places : ℕ) → listOf p q places ≡ listOf p′ q places
   pub after : (q : Query) (before : List ℕ) → listAfter p q before ≡ listAfter p′ q before
   pub levels : foundLevels p ≡ foundLevels p′
+  pub words : (q : Query) (w : ℕ) → wordsOf p q w ≡ wordsOf p′ q w
 
 module _ (p : Policy) where
   -- the cost
@@ -125,6 +129,13 @@ module _ (p : Policy) where
     after-cut before = refused-same _ _ _ _ _ (list-cut (length before)) (λ e.
         let t = accepted p q (list-accepted p q (length before) e) .range in rw (slim-sets-cut p q t))
 
+    words-cut : (w : ℕ) → wordsOf (cut p) q w ≡ wordsOf p q w
+    unfolding wordsOf wordQuestions queryInRange
+    words-cut w = refused-same _ _ _ _ _ (asked-cut (queryInRange p q && leb w 1023)) (λ e.
+        let t = answers p (queryInRange p q && leb w 1023) e .range in
+        let same = model-alike (cut p) p q w refl refl (λ d s h. clears-cut p (asking q d) t s) in
+        ap (λ (l : List ℕ). record { refusal = 0; word = l }) same)
+
   -- a record and the record without the entries past its counts
   pub cut-same : Ignored (cut p) p
   unfolding checkOf
@@ -136,6 +147,7 @@ module _ (p : Policy) where
     list = count-cut;
     after = after-cut;
     levels = levels-cut p;
+    words = words-cut;
   }
 
 -- and so any two that agree below their counts
@@ -148,4 +160,5 @@ ignored p p′ e = let a = cut-same p in let b = cut-same p′ in record {
   list = λ q places. sym (a .list q places) ∙ ap (λ (r : Policy). listOf r q places) e ∙ b .list q places;
   after = λ q before. sym (a .after q before) ∙ ap (λ (r : Policy). listAfter r q before) e ∙ b .after q before;
   levels = sym (a .levels) ∙ ap foundLevels e ∙ b .levels;
+  words = λ q w. sym (a .words q w) ∙ ap (λ (r : Policy). wordsOf r q w) e ∙ b .words q w;
 }

@@ -1,10 +1,10 @@
 -- Which levels are used makes no difference, so they fit: the same sets clear, and every answer but Fire's is the same.
 use Prim.Native.Nat.{ℕ}
-use mathlib.Core.Bool.{Bool, true}
+use mathlib.Core.Bool.{Bool, true, _&&_}
 use mathlib.Core.List.{List}
 use mathlib.Core.Logic.{_↔_}
 use mathlib.Core.Path.{_≡_, refl, ap}
-use lib.Dec.{T}
+use lib.Dec.{T, leb}
 use Rattle.mask.specs.Laws.Tests.{same, is-true, parts}
 use Rattle.policy.specs.declared.Policy.{Policy}
 use Rattle.policy.specs.declared.Query.{Query}
@@ -18,10 +18,14 @@ use Rattle.engine.specs.declared.Levelling.{Levelling}
 use Rattle.engine.specs.Sets.{costOf}
 use Rattle.engine.specs.Calls.{offerInRange, offerQuestions, listQuestions, enough, clears, slimSets, judgeOf, chooseOf}
 use Rattle.engine.specs.Calls.{checkOf, listOf, listAfter}
+use Rattle.words.specs.Models.{asking}
+use Rattle.words.specs.Laws.Alike.{model-alike}
+use Rattle.engine.specs.Words.{wordQuestions, wordsOf}
 use Rattle.engine.specs.Levels.{foundLevels}
 use Rattle.engine.specs.Laws.Levels.{others-range, lowest-small, found-lowest, finds-levels}
 use Rattle.engine.specs.Laws.Alike.{slim-sets-alike, answer-alike}
 use Rattle.engine.specs.Laws.Decide.{enough-derivable}
+use Rattle.engine.specs.Laws.Words.{asking-accepted}
 
 -- two policies answer a query alike; Fire may show other rules
 pub record SameAnswers (p p′ : Policy) (q : Query) : Type 0 where
@@ -30,6 +34,7 @@ pub record SameAnswers (p p′ : Policy) (q : Query) : Type 0 where
   pub choose : chooseOf p q ≡ chooseOf p′ q
   pub list : (places : ℕ) → listOf p q places ≡ listOf p′ q places
   pub after : (before : List ℕ) → listAfter p q before ≡ listAfter p′ q before
+  pub words : (w : ℕ) → wordsOf p q w ≡ wordsOf p′ q w
 
 -- the questions of accepted policies are answered alike
 questions-same : {p p′ : Policy} {a b : Bool} → Answers p a → Answers p′ b → (rest : Bool) → questions p rest ≡ questions p′ rest
@@ -88,14 +93,24 @@ module _ (p : Policy) (level : List ℕ) (q : Query) (ok : Accepted p q) (fit : 
   unfolding listAfter listQuestions queryInRange p′
   after-same before = rw (asked-same (queryInRange p q), slim-sets-same)
 
+module _ (p : Policy) (level : List ℕ) (q : Query) (ok : Accepted p q) (fit : Accepted (withLevels p level) q) where
+  words-same : (w : ℕ) → wordsOf p q w ≡ wordsOf (withLevels p level) q w
+  unfolding wordsOf wordQuestions queryInRange p′
+  words-same w = rw (
+    asked-same p level q ok fit (queryInRange p q && leb w 1023),
+    model-alike p (withLevels p level) q w refl refl (λ d s h.
+        clears-same p level (asking q d) (asking-accepted p q ok d h) (asking-accepted (withLevels p level) q fit d h) s),
+  )
+
   pub same-answers : SameAnswers p (withLevels p level) q
   unfolding p′
   same-answers = record {
     derivable = same-model p level q ok fit;
-    judge = judge-same;
-    choose = choose-same;
-    list = list-same;
-    after = after-same;
+    judge = judge-same p level q ok fit;
+    choose = choose-same p level q ok fit;
+    list = list-same p level q ok fit;
+    after = after-same p level q ok fit;
+    words = words-same;
   }
 
 -- for a policy whose questions are answered yes levels are found

@@ -1,0 +1,7 @@
+-- Bit by bit, what the words of the sets say.
+pub mod Columns
+pub mod Picked
+pub mod Offered
+pub mod Spread
+pub mod Worlds
+pub mod Needed

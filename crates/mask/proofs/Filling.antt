@@ -1,0 +1,27 @@
+-- Loops that fill an array.
+use Prim.Native.Nat.{ℕ, _+_, _≤_, _<_, zero-le}
+use mathlib.Core.List.{List}
+use mathlib.Core.Path.{_≡_, sym, _∙_, ap}
+use native.Mathlib.Decide.{ℕ-discrete}
+use native.Mathlib.Omega.{arith}
+use lib.ListN.{length, getD, set, length-set}
+use lib.Seq.{getD-set-same, getD-set-other}
+use Rattle.mask.specs.Packed.{table, Filled}
+use Rattle.mask.specs.Laws.Packed.{table-only}
+
+pub filled-none : {f : ℕ → ℕ} {n : ℕ} {l : List ℕ} → length l ≡ n → Filled f n l 0
+filled-none e = record { size = e; within = zero-le; entries = λ j h. absurd (omega arith) }
+
+module _ {f : ℕ → ℕ} {n : ℕ} {l : List ℕ} {i : ℕ} (p : Filled f n l i) where
+  pub filled-more : {v : ℕ} → i < n → v ≡ f i → Filled f n (set l i v) (i + 1)
+  filled-more {v} h e = record {
+    size = length-set l i v ∙ p .size;
+    within = omega arith;
+    entries = λ j k. elim (ℕ-discrete j i) [
+      | yes s ↦ ap (λ (x : ℕ). getD (set l i v) x 0) s ∙ getD-set-same l i v 0 (omega (arith, p .size)) ∙ e ∙ ap f (sym s)
+      | no s ↦ getD-set-other l i j v 0 s ∙ p .entries j (omega arith)
+    ];
+  }
+
+  pub filled-all : n ≤ i → l ≡ table n f
+  filled-all h = table-only n f l (p .size) (λ j k. p .entries j (omega arith))

@@ -1,0 +1,85 @@
+-- How far words can still grow: each addition makes their sum larger, and no word grows past 64 bits.
+use Prim.Native.Nat.{ℕ, zero, suc, _+_, _*_, _^_, _≤_, _<_, zero-le}
+use mathlib.Core.List.{List, [], _∷_}
+use mathlib.Core.Logic.{_≢_}
+use mathlib.Core.Path.{_≡_, subst, sym, ap, _∙_}
+use native.Mathlib.Decide.{ℕ-discrete}
+use native.Mathlib.Omega.{arith}
+use lib.Bits.{bitAnd, bitOr, or-add-and, or-lt}
+use lib.Dec.{T-not, eqb→eq, lit<}
+use lib.ListN.{length, getD, set, replicate, length-set, length-replicate}
+use lib.Seq.{getD-set-same, getD-set-other}
+use Rattle.mask.specs.Mask.{has}
+use Rattle.mask.specs.Laws.{disjoint-iff}
+use Rattle.mask.specs.Laws.Tests.{getD-filled}
+use Rattle.policy.specs.declared.Rule.{Rule}
+use Rattle.words.specs.Words.{addedOf, grown}
+use Rattle.words.specs.Right.{AreWords}
+use Rattle.words.specs.Laws.Bits.{adds, added-lt}
+
+unfoldable pub total : List ℕ → ℕ
+total [] = 0
+total (l ∷ ls) = l + total ls
+
+total-set : (l : List ℕ) (i v : ℕ) → i < length l → total (set l i v) + getD l i 0 ≡ total l + v
+unfolding total
+total-set [] i v h = absurd (omega arith)
+total-set (x ∷ l) zero v h = omega arith
+total-set (x ∷ l) (suc i) v h = omega (arith, total-set l i v (omega arith))
+
+total-most : (l : List ℕ) (m : ℕ) → ((d : ℕ) → getD l d 0 ≤ m) → total l ≤ length l * m
+unfolding total
+total-most [] m h = zero-le
+total-most (x ∷ l) m h = omega (arith, h 0, total-most l m (λ d. h (suc d)))
+
+-- what a rule adds is not held yet
+apart : (held : List ℕ) (word : ℕ) (r : Rule) → bitAnd (getD held (r .head) 0) (addedOf held word r) ≡ 0
+apart held word r = eqb→eq (bitAnd (getD held (r .head) 0) (addedOf held word r)) 0
+    (disjoint-iff (getD held (r .head) 0) (addedOf held word r) .1 (λ i a b. T-not (has (getD held (r .head) 0) i)
+    (adds held i word r b .lacks) a))
+
+-- words of 0
+pub are-words-none : (n : ℕ) → AreWords n (replicate n 0)
+are-words-none n = record {
+  size = length-replicate {A = ℕ} n 0;
+  small = λ d. subst (λ (x : ℕ). x < 2 ^ 64) (sym (getD-filled n d 0)) (lit< tt);
+}
+
+-- a word put in place of one
+pub are-words-set : {n : ℕ} {l : List ℕ} (i v : ℕ) → i < n → v < 2 ^ 64 → AreWords n l → AreWords n (set l i v)
+are-words-set {n} {l} i v h k good = record {
+  size = length-set l i v ∙ good .size;
+  small = λ d. elim (ℕ-discrete d i) [
+    | yes e ↦ subst (λ (x : ℕ). x < 2 ^ 64)
+        (sym (ap (λ (x : ℕ). getD (set l i v) x 0) e ∙ getD-set-same l i v 0 (subst (λ (x : ℕ). i < x) (sym (good .size)) h))) k
+    | no ne ↦ subst (λ (x : ℕ). x < 2 ^ 64) (sym (getD-set-other l i d v 0 ne)) (good .small d)
+  ];
+}
+
+module _ {held : List ℕ} (good : AreWords 128 held) where
+  pub total-bound : total held ≤ 128 * 2 ^ 64
+  total-bound = subst (λ (x : ℕ). total held ≤ x * 2 ^ 64) (good .size) (total-most held (2 ^ 64) (λ d. omega (arith, good .small d)))
+
+  module _ (word : ℕ) (r : Rule) (head : r .head < 128) where
+    -- the words once the rule has added what it adds
+    abbrev pub next : List ℕ
+    next = grown held (r .head) (addedOf held word r)
+
+    pub next-words : word < 2 ^ 64 → AreWords 128 next
+    next-words h = are-words-set (r .head) _ head
+        (or-lt 64 (getD held (r .head) 0) (addedOf held word r) (good .small (r .head)) (added-lt held word r h)) good
+
+    -- their sum has grown by it
+    total-next : total next ≡ total held + addedOf held word r
+    total-next = omega (
+      arith,
+      total-set held (r .head) (bitOr (getD held (r .head) 0) (addedOf held word r)) (omega (arith, good .size)),
+      or-add-and (getD held (r .head) 0) (addedOf held word r),
+      apart held word r,
+    )
+
+    pub total-kept : total held ≤ total next
+    total-kept = omega (arith, total-next)
+
+    pub total-more : addedOf held word r ≢ 0 → total held < total next
+    total-more some = omega (arith, total-next, some)

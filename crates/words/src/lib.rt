@@ -1,0 +1,165 @@
+// The models of the 64 sets of a word, for the engine alone: it has asked the questions that these functions require.
+ghost use mathlib.Core.Path.{_≡_};
+ghost use Prim.Native.Nat.{ℕ, _≤_, _<_};
+ghost use lib.ListN.{getD};
+ghost use Rattle.mask.specs.Packed.{Filled};
+ghost use Rattle.policy.specs.declared.Query.{Query};
+ghost use Rattle.policy.specs.Record.{ruleOf};
+ghost use Rattle.policy.specs.Laws.{InRange};
+ghost use Rattle.policy.specs.Questions.{Accepted};
+ghost use Rattle.columns.specs.Sets.{neededOf};
+ghost use Rattle.order.specs.Order.{Ordered, Used};
+ghost use Rattle.words.specs.Models.{modelOf, wordOf};
+ghost use Rattle.words.specs.Right.{AreWords, Right, Enabling, Planned, Worked};
+use adding::add;
+use policy::Policy;
+use policy::Query;
+
+mod adding;
+
+// What is in every world, what each action leads to by itself, and an order of the rules: those of level l stand at the places
+// from start[l] up to start[l + 1], and none before uses[d] asks for decision d as an if.
+pub struct Plan {
+    pub base: u16,
+    pub leads: [u16; 16],
+    pub rules: [u8; 256],
+    pub start: [u16; 17],
+    pub uses: [u16; 128],
+}
+
+// What the words of a query are worked from.
+pub fn prepare(policy: Policy, query: Query) -> Plan
+    requires { ⌜ Accepted policy query ⌝ }
+    ensures { λ r. ⌜ Planned policy query (r .base) (r .leads) (r .rules) (r .start) (r .uses) ⌝ }
+{
+    let action = policy.action;
+    let base = model::world(action, policy.actions, query.done, 0);
+    let leads = columns::reach(action, policy.actions);
+    let sorted = order::sorted(policy);
+    let rules = sorted.rules;
+    let start = sorted.start;
+    let uses = sorted.uses;
+    Plan {
+        base: base,
+        leads: leads,
+        rules: rules,
+        start: start,
+        uses: uses,
+    }
+}
+
+// For each place of an order those of the sets that enable its rule.
+fn enabling(
+    policy: Policy,
+    fours: &[u64; 64],
+    sets: u64,
+    order: &[u8; 256],
+    count: usize,
+) -> [u64; 256]
+    requires { ⌜ count ≤ 256 ⌝ }
+    requires { ⌜ ((j : ℕ) → j < count → getD (now order) j 0 < 256) ⌝ }
+    ensures { λ r. ⌜ Filled (λ j. neededOf (now (fours .entry)) (ruleOf policy (getD (now (order .entry)) j 0) .needs) sets) 256 r count ⌝ }
+    ensures { λ r. ⌜ AreWords 256 r ⌝ }
+{
+    let mut enabled = [0u64; 256];
+    for j in 0..count {
+        let k = order[j] as usize;
+        let rule = policy.rule[k];
+        enabled[j] = columns::needed(fours, rule.needs, sets);
+    }
+    enabled
+}
+
+// The words once each of the first `count` levels is settled, from 0 up. A level is settled by passes over its rules. More are due
+// where a rule adds to a decision that a rule asks for at its own place or before it: first one back, from the last rule to the
+// first, since what runs against the order in a circle of rules runs with it then.
+fn levels(
+    policy: Policy,
+    order: &[u8; 256],
+    start: &[u16; 17],
+    uses: &[u16; 128],
+    enabled: &[u64; 256],
+    count: usize,
+) -> [u64; 128]
+    requires { ⌜ InRange policy ⌝ }
+    requires { ⌜ Ordered policy (now order) (now start) ⌝ }
+    requires { ⌜ Used policy (now order) (now uses) ⌝ }
+    requires { ⌜ AreWords 256 (now enabled) ⌝ }
+    requires { ⌜ count ≤ 16 ⌝ }
+    ensures { λ r. ⌜ ((q : Query) (w sets : ℕ) → Accepted policy q → Enabling policy q w sets (now (order .entry)) (now (enabled .entry))
+        → Right policy q w sets count r) ⌝ }
+{
+    let mut held = [0u64; 128];
+    for l in 0..count {
+        let from = start[l] as usize;
+        let to = start[l + 1] as usize;
+        'passes: loop {
+            let mut again = false;
+            for j in from..to {
+                let k = order[j] as usize;
+                let rule = policy.rule[k];
+                let more = add(rule, enabled[j], &mut held);
+                if more != 0 {
+                    let head = rule.head as usize;
+                    if uses[head] <= j as u16 {
+                        again = true;
+                    }
+                }
+            }
+            if !again {
+                break 'passes;
+            }
+            for n in from..to {
+                let j = to - 1 - (n - from);
+                let k = order[j] as usize;
+                let rule = policy.rule[k];
+                add(rule, enabled[j], &mut held);
+            }
+        }
+    }
+    held
+}
+
+// The words of the sets of w, right for the decisions of the first `count` levels.
+fn worked(policy: Policy, query: Query, plan: Plan, w: u16, count: usize) -> [u64; 128]
+    requires { ⌜ Accepted policy query ⌝ }
+    requires { ⌜ Planned policy query (plan .base) (plan .leads) (plan .rules) (plan .start) (plan .uses) ⌝ }
+    requires { ⌜ w ≤ 1023 ⌝ }
+    requires { ⌜ count ≤ 16 ⌝ }
+    ensures { λ r. ⌜ Worked policy query w count r ⌝ }
+{
+    let sets = columns::offered(policy.actions, query.done, w);
+    if sets == 0 {
+        return [0u64; 128];
+    }
+    let leads = plan.leads;
+    let fours = columns::fours(plan.base, &leads, w);
+    let rules = plan.rules;
+    let enabled = enabling(policy, &fours, sets, &rules, policy.rules as usize);
+    let start = plan.start;
+    let uses = plan.uses;
+    levels(policy, &rules, &start, &uses, &enabled, count)
+}
+
+// For each decision the sets of the word w that clear it: bit i is the set 64 w + i.
+pub fn model(policy: Policy, query: Query, plan: Plan, w: u16) -> [u64; 128]
+    requires { ⌜ Accepted policy query ⌝ }
+    requires { ⌜ Planned policy query (plan .base) (plan .leads) (plan .rules) (plan .start) (plan .uses) ⌝ }
+    requires { ⌜ w ≤ 1023 ⌝ }
+    ensures { λ r. ⌜ r ≡ modelOf policy query w ⌝ }
+{
+    worked(policy, query, plan, w, 16)
+}
+
+// The sets of the word w that clear the decision wanted. The levels above its own are left out.
+pub fn wanted(policy: Policy, query: Query, plan: Plan, w: u16) -> u64
+    requires { ⌜ Accepted policy query ⌝ }
+    requires { ⌜ Planned policy query (plan .base) (plan .leads) (plan .rules) (plan .start) (plan .uses) ⌝ }
+    requires { ⌜ w ≤ 1023 ⌝ }
+    ensures { λ r. ⌜ r ≡ wordOf policy query w (query .want) ⌝ }
+{
+    let want = query.want as usize;
+    let count = policy.level[want] as usize + 1;
+    let word = worked(policy, query, plan, w, count);
+    word[want]
+}
