@@ -14,7 +14,8 @@ use Rattle.policy.specs.declared.Query.{Query}
 use Rattle.policy.specs.Questions.{Accepted}
 use Rattle.policy.specs.Record.{ruleOf, headOf, ifsOf}
 use Rattle.policy.specs.Laws.{InRange, RuleFits, rule-wider}
-use Rattle.order.specs.Order.{Hand, Used}
+use Rattle.order.specs.Order.{Used}
+use Rattle.order.specs.Laws.{Hand}
 use Rattle.words.specs.Words.{addedOf}
 use Rattle.words.specs.Right.{AreWords, Right}
 use Rattle.words.specs.Laws.Right.{right-next}

@@ -10,8 +10,7 @@ use Rattle.policy.specs.declared.Query.{Query}
 use Rattle.policy.specs.Questions.{Accepted}
 use Rattle.policy.specs.Record.{ruleOf}
 use Rattle.policy.specs.Laws.{RuleFits}
-use Rattle.order.specs.Order.{Hand}
-use Rattle.order.specs.Laws.{level-hand}
+use Rattle.order.specs.Laws.{Hand, level-hand}
 use Rattle.words.specs.Right.{AreWords, Right, Enabling}
 use Rattle.words.specs.Laws.Right.{right-start}
 use Rattle.words.specs.Laws.Room.{total, total-bound, are-words-none}
