@@ -1,31 +1,25 @@
 -- The sets of a word that are offered: those with no action that is shut.
-use Prim.Native.Nat.{ℕ, _+_, _/_, _%_, _^_, _≤_, _<_}
+use Prim.Native.Nat.{ℕ, _^_, _≤_, _<_}
 use mathlib.Core.Bool.{Bool, true, _&&_, _||_, not}
 use mathlib.Core.Logic.{⊎-elim}
 use mathlib.Core.Path.{_≡_, sym, _∙_, subst}
-use native.Mathlib.Nat.{div-lt-iff-lt-mul}
 use native.Mathlib.Omega.{arith}
 use lib.Bits.{bitAnd, xor-lt, and-lt}
-use lib.Dec.{T, T-not, not-T, eqb, ltb, leb, ltb→lt, lt→ltb, leb→le, nleb→lt}
-use lib.Pow.{pow-pos, shr-shr}
+use lib.Dec.{T, T-not, not-T, ltb, leb, ltb→lt, lt→ltb, leb→le, nleb→lt}
 use Rattle.mask.specs.Mask.{has, disjoint}
 use Rattle.mask.specs.Every.{everyBelow}
-use Rattle.mask.specs.Laws.{has→<, has-none, ⊆-antisym, disjoint-iff}
+use Rattle.mask.specs.Laws.{has→<, ⊆→<, disjoint-iff}
 use Rattle.mask.specs.Laws.Tests.{same, either, and-make, and-left, and-right, or-left, or-right, or-cases, everyBelow-at, everyBelow-make}
-use Rattle.mask.specs.Packed.{minus}
+use Rattle.mask.specs.Packed.{packed, minus}
 use Rattle.mask.specs.Laws.Packed.{has-minus, packed-lt, packed-bit, packed-only}
 use Rattle.columns.specs.Sets.{allSets, setAt, columnOf, isOffered, isShut, offeredOf, picked}
 use Rattle.columns.specs.Laws.Columns.{all-set, set-small}
 use Rattle.columns.specs.Laws.Picked.{picked-keeps, picked-lt}
 
 -- a set of none but the first m actions is below 2 ^ m
-pub few-actions : (s m : ℕ) → ((a : ℕ) → T (has s a) → a < m) → s < 2 ^ m
-few-actions s m h = omega (arith, div-lt-iff-lt-mul {x = s} {y = 1} (pow-pos m) .0 (omega (arith, nothing)))
-  where
-    nothing : s / 2 ^ m ≡ 0
-    nothing = ⊆-antisym (s / 2 ^ m) 0
-        (λ a t. absurd (omega (arith, h (m + a) (subst (λ (x : ℕ). T (eqb (x % 2) 1)) (shr-shr s m a) t))))
-        (λ a t. absurd (has-none a t))
+few-actions : (s m : ℕ) → ((a : ℕ) → T (has s a) → a < m) → s < 2 ^ m
+few-actions s m h =
+    ⊆→< s (packed m (has s)) m (λ a t. subst T (sym (packed-bit m (has s) a (h a t))) t) (packed-lt m (has s))
 
 pub column-bit : (w a i : ℕ) → i < 64 → has (columnOf w a) i ≡ has (setAt w i) a
 unfolding columnOf

@@ -12,7 +12,7 @@ use Rattle.mask.specs.Every.{someBelow}
 use Rattle.mask.specs.Packed.{packed, table}
 use Rattle.mask.specs.Laws.{has→<, has-none}
 use Rattle.mask.specs.Laws.Packed.{packed-bit, packed-only, table-at}
-use Rattle.mask.specs.Laws.Tests.{same, and-make, and-left, and-right, or-left, or-right, or-cases, someBelow-at, someBelow-make}
+use Rattle.mask.specs.Laws.Tests.{same, is-false, and-make, and-left, and-right, or-left, or-right, or-cases, someBelow-at, someBelow-make}
 use Rattle.policy.specs.declared.Policy.{Policy}
 use Rattle.policy.specs.declared.Query.{Query}
 use Rattle.policy.specs.Questions.{Accepted}
@@ -27,7 +27,7 @@ use Rattle.columns.specs.Laws.Spread.{By, spread, gather}
 -- every bit of a word, or none
 pub all-or-none : (b : Bool) (i : ℕ) → i < 64 → has (cond b allSets 0) i ≡ b
 all-or-none true i h = ap (λ (x : ℕ). has x i) all-set ∙ packed-bit 64 (λ j. true) i h
-all-or-none false i h = same (has 0 i) false (λ t. absurd (has-none i t)) (λ t. absurd t)
+all-or-none false i h = is-false (has 0 i) (has-none i)
 
 all-lt : (b : Bool) → cond b allSets 0 < 2 ^ 64
 all-lt true = lit< tt
