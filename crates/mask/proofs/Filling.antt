@@ -6,8 +6,8 @@ use native.Mathlib.Decide.{ℕ-discrete}
 use native.Mathlib.Omega.{arith}
 use lib.ListN.{length, getD, set, length-set}
 use lib.Seq.{getD-set-same, getD-set-other}
-use Rattle.mask.specs.Packed.{table, Filled}
-use Rattle.mask.specs.Laws.Packed.{table-only}
+use Rattle.mask.specs.Packed.{table}
+use Rattle.mask.specs.Laws.Packed.{Filled, table-only}
 
 pub filled-none : {f : ℕ → ℕ} {n : ℕ} {l : List ℕ} → length l ≡ n → Filled f n l 0
 filled-none e = record { size = e; within = zero-le; entries = λ j h. absurd (omega arith) }

@@ -49,7 +49,8 @@ pub policy-owned : (p : Policy) (vs : List Val) → shadow (policy.the-row .own 
 policy-owned p vs own few =
     let rules = own .1 .1 .1 .1 .1 .1 .1 .0 in
     let count : length (p .rule) ≡ 256 = length-mapped _ _ (rule.the-field .into) (p .rule) 256 (rules .1 .0 .1) in
-    let eights = each-owned _ (rule.the-field .row .own) (rule.the-field .into) Eights noRule rule-owned (p .rule) (rules .0) (rules .1 .1) in
+    let eights = each-owned _ (rule.the-field .row .own) (rule.the-field .into) Eights noRule rule-owned (p .rule) (rules .0)
+    (rules .1 .1) in
     record {
       levels = search needs;
       actions = length-mapped _ _ (action.the-field .into) (p .action) 16 (own .1 .1 .1 .1 .1 .1 .0 .1 .0 .1);

@@ -3,7 +3,7 @@ use Prim.Native.Nat.{ℕ}
 use mathlib.Core.List.{List, [], _∷_}
 use lib.ListN.{getD, set}
 use lib.Bits.{bitAnd, bitOr}
-use Rattle.mask.specs.Packed.{minus}
+use Rattle.mask.specs.Laws.Packed.{minus}
 use Rattle.policy.specs.declared.Rule.{Rule}
 use Rattle.policy.specs.Record.{listed}
 

@@ -2,7 +2,7 @@
 ghost use mathlib.Core.Path.{_≡_};
 ghost use Prim.Native.Nat.{ℕ, _≤_, _<_};
 ghost use lib.ListN.{getD};
-ghost use Rattle.mask.specs.Packed.{Filled};
+ghost use Rattle.mask.specs.Laws.Packed.{Filled};
 ghost use Rattle.policy.specs.declared.Query.{Query};
 ghost use Rattle.policy.specs.Record.{ruleOf};
 ghost use Rattle.policy.specs.Laws.{InRange};

@@ -5,7 +5,7 @@ use mathlib.Core.Path.{ap, _∙_}
 use native.Mathlib.Omega.{arith}
 use borrow.Author.Needs.{needs}
 use lib.ListN.{length-replicate}
-use Rattle.mask.specs.Packed.{Filled}
+use Rattle.mask.specs.Laws.Packed.{Filled}
 use Rattle.mask.proofs.Filling.{filled-none, filled-more, filled-all}
 use Rattle.columns.specs.Sets.{fourOf, foursOf}
 use Rattle.columns.proofs.fours.Statement.{statement}

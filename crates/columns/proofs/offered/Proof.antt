@@ -4,7 +4,7 @@ use mathlib.Core.Logic.{⊎-elim}
 use mathlib.Core.Path.{refl, sym, _∙_, ap}
 use native.Mathlib.Omega.{arith}
 use borrow.Author.Needs.{needs}
-use Rattle.mask.specs.Packed.{minus}
+use Rattle.mask.specs.Laws.Packed.{minus}
 use Rattle.columns.specs.Sets.{allSets, columnOf, isShut}
 use Rattle.columns.specs.Laws.Offered.{offered-is}
 use Rattle.columns.proofs.Picking.{Picking, picking-none, picking-in, picking-out, picking-all}

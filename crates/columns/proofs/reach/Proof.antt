@@ -6,7 +6,7 @@ use borrow.Author.Needs.{needs}
 use lib.ListN.{length-replicate}
 use Rattle.mask.proofs.Bits.{worth}
 use Rattle.model.specs.World.{worldIn}
-use Rattle.mask.specs.Packed.{Filled}
+use Rattle.mask.specs.Laws.Packed.{Filled}
 use Rattle.mask.proofs.Filling.{filled-none, filled-more, filled-all}
 use Rattle.columns.proofs.reach.Statement.{statement}
 use Rattle.columns.proofs.reach.Tie as tie

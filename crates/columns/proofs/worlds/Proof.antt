@@ -4,7 +4,7 @@ use native.Mathlib.Omega.{arith}
 use borrow.Author.Needs.{needs}
 use lib.ListN.{length-replicate}
 use Rattle.columns.specs.Sets.{gathered}
-use Rattle.mask.specs.Packed.{Filled}
+use Rattle.mask.specs.Laws.Packed.{Filled}
 use Rattle.mask.proofs.Filling.{filled-none, filled-more, filled-all}
 use Rattle.columns.proofs.worlds.Statement.{statement}
 use Rattle.columns.proofs.worlds.Tie as tie

@@ -10,8 +10,8 @@ use Rattle.mask.specs.Mask.{has, disjoint}
 use Rattle.mask.specs.Every.{everyBelow}
 use Rattle.mask.specs.Laws.{has→<, ⊆→<, disjoint-iff}
 use Rattle.mask.specs.Laws.Tests.{same, either, and-make, and-left, and-right, or-left, or-right, or-cases, everyBelow-at, everyBelow-make}
-use Rattle.mask.specs.Packed.{packed, minus}
-use Rattle.mask.specs.Laws.Packed.{has-minus, packed-lt, packed-bit, packed-only}
+use Rattle.mask.specs.Packed.{packed}
+use Rattle.mask.specs.Laws.Packed.{minus, has-minus, packed-lt, packed-bit, packed-only}
 use Rattle.columns.specs.Sets.{allSets, setAt, columnOf, isOffered, isShut, offeredOf, picked}
 use Rattle.columns.specs.Laws.Columns.{all-set, set-small}
 use Rattle.columns.specs.Laws.Picked.{picked-keeps, picked-lt}

@@ -1,5 +1,5 @@
 -- What a packed word is known by: its bits.
-use Prim.Native.Nat.{ℕ, zero, suc, _+_, _-_, _*_, _/_, _%_, _^_, _<_}
+use Prim.Native.Nat.{ℕ, zero, suc, _+_, _-_, _*_, _/_, _%_, _^_, _≤_, _<_}
 use mathlib.Core.Bool.{Bool, true, false, _&&_, not, cond}
 use mathlib.Core.List.{List}
 use mathlib.Core.Path.{_≡_, refl, sym, _∙_, ap, subst}
@@ -11,9 +11,13 @@ use lib.Dec.{T, eqb, eqb→eq, lit<}
 use lib.ListN.{length, getD}
 use lib.Seq.{ext-getD}
 use Rattle.mask.specs.Mask.{has}
-use Rattle.mask.specs.Packed.{packed, table, minus}
+use Rattle.mask.specs.Packed.{packed, table}
 use Rattle.mask.specs.Laws.{digit, has-low, has-high, has-and, has→<, has-without, one-has, one-is, ⊆-antisym}
 use Rattle.mask.specs.Laws.Tests.{same, passes}
+
+-- the members of a that are not in b
+abbrev pub minus : ℕ → ℕ → ℕ
+minus a b = bitXor a (bitAnd a b)
 
 abbrev unlike : Bool → Bool → Bool
 unlike a b = elim a [ true ↦ not b | false ↦ b ]
@@ -88,6 +92,12 @@ pub packed-same : (n : ℕ) (f g : ℕ → Bool) → ((i : ℕ) → i < n → f 
 packed-same n f g e = packed-only n (packed n f) g (packed-lt n f) (λ i h. packed-bit n f i h ∙ e i h)
 
 -- ---- lists
+-- a list of n entries, of which those below i are those of f
+pub record Filled (f : ℕ → ℕ) (n : ℕ) (l : List ℕ) (i : ℕ) : Type 0 where
+  pub size : length l ≡ n
+  pub within : i ≤ n
+  pub entries : (j : ℕ) → j < i → getD l j 0 ≡ f j
+
 pub table-length : (n : ℕ) (f : ℕ → ℕ) → length (table n f) ≡ n
 unfolding table
 table-length zero f = refl

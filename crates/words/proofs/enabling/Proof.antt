@@ -5,7 +5,7 @@ use native.Mathlib.Omega.{arith}
 use borrow.Author.Needs.{needs}
 use lib.ListN.{getD, length-replicate}
 use Rattle.policy.specs.Record.{ruleOf}
-use Rattle.mask.specs.Packed.{Filled}
+use Rattle.mask.specs.Laws.Packed.{Filled}
 use Rattle.columns.specs.Sets.{neededOf}
 use Rattle.mask.proofs.Filling.{filled-none, filled-more}
 use Rattle.columns.specs.Laws.Needed.{needed-lt}

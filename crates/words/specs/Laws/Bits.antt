@@ -8,9 +8,8 @@ use lib.ListN.{getD}
 use lib.Bits.{bitAnd}
 use Rattle.mask.specs.Mask.{has}
 use Rattle.mask.specs.Every.{every}
-use Rattle.mask.specs.Packed.{minus}
 use Rattle.mask.specs.Laws.{has-and, has-none, ⊆→<, ⊆-antisym}
-use Rattle.mask.specs.Laws.Packed.{has-minus}
+use Rattle.mask.specs.Laws.Packed.{minus, has-minus}
 use Rattle.mask.specs.Laws.Tests.{and-make, and-left, and-right}
 use Rattle.policy.specs.declared.Rule.{Rule}
 use Rattle.policy.specs.Record.{listed}

@@ -9,9 +9,9 @@ use lib.Dec.{T, T-not, not-T, eqb, eqb→eq, ltb, ltb→lt, lt→ltb}
 use lib.ListN.{length, getD, replicate}
 use lib.Pow.{pow-mono}
 use Rattle.mask.specs.Mask.{has, disjoint}
-use Rattle.mask.specs.Packed.{table, Filled}
+use Rattle.mask.specs.Packed.{table}
 use Rattle.mask.specs.Laws.{has-none, ⊆→<}
-use Rattle.mask.specs.Laws.Packed.{packed-lt, packed-bit, packed-only, table-only, table-at}
+use Rattle.mask.specs.Laws.Packed.{Filled, packed-lt, packed-bit, packed-only, table-only, table-at}
 use Rattle.mask.specs.Laws.Tests.{same, and-make, and-left, and-right}
 use Rattle.policy.specs.declared.Policy.{Policy}
 use Rattle.policy.specs.declared.Query.{Query}

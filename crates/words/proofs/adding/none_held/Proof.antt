@@ -3,7 +3,7 @@ use Prim.Native.Nat.{_-_}
 use mathlib.Core.Path.{refl}
 use native.Mathlib.Omega.{arith}
 use borrow.Author.Needs.{needs}
-use Rattle.mask.specs.Packed.{minus}
+use Rattle.mask.specs.Laws.Packed.{minus}
 use Rattle.words.specs.Words.{folded}
 use Rattle.policy.specs.Laws.{list-entry}
 use Rattle.words.proofs.Folding.{So, so-next, so-all}
