@@ -4,6 +4,7 @@
 
 use crate::asp::{program, sets, NO_NOTES, SOLVE};
 use crate::clock::{best_in_turns, best_time, timed, Timed, LEAST_TURNS, MOST_TURNS, REPEATS};
+use crate::compare::but_lines;
 use crate::generate::{file, text, to_lines};
 use crate::hard::{circle, hard, little, others, LARGEST};
 use crate::random::{random, Case, Size};
@@ -85,6 +86,7 @@ fn clingo(clear: &str, times: &[Timed]) -> io::Result<()> {
     println!();
     let [with, without] = quicker;
     println!("A ratio below 1 means that clingo is the slower one. Process start counts for both.");
+    println!("clingo lists the slim sets; clear also finds what to keep off, and the rules fired.");
     println!("Of {} files clear is quicker on {with}, and on {without} where grounding is not counted.", times.len());
     println!("Of {ALIKE} generated files clingo lists the same sets as clear for {}.", alike(clear)?);
     Ok(())
@@ -115,14 +117,16 @@ fn listed(printed: &[u8]) -> Option<Vec<u32>> {
     list.split(',').map(|set| set.parse().ok()).collect()
 }
 
-/// The times of `clear` and of an earlier build of it, on the files without also masks.
+/// The times of `clear` and of an earlier build of it, on the files without also masks. The earlier one may print no
+/// keep-off masks, so these are not compared.
 fn builds(clear: &str, before: &str) -> io::Result<()> {
     println!();
     heading("file without also masks", "clear", "earlier clear");
     let without = |case: &Case| case.policy.actions.iter().all(|action| action.also == 0);
     for (what, case) in cases().into_iter().filter(|(_, case)| without(case)) {
         let [this, earlier] = best_in_turns([clear, before], &text(&to_lines(&case)))?;
-        row(what, &this, &earlier, this.printed == earlier.printed);
+        let [one, other] = [&this, &earlier].map(|timed| but_lines(&String::from_utf8_lossy(&timed.printed), "keep="));
+        row(what, &this, &earlier, one == other);
     }
     println!();
     println!("The two builds took turns, {LEAST_TURNS} to {MOST_TURNS} times; the times are the best of these.");

@@ -1,6 +1,7 @@
 //! Runs the files of a seed through a program and through the engine here, and compares what they print.
 
 use crate::generate::{file, levels_file, words_file};
+use crate::keep::ways_agree;
 use crate::levels::{is_lowest, levels, lowest, MOST_TRIED};
 use crate::longest::{longest, sets_of};
 use crate::probe::probe;
@@ -31,22 +32,24 @@ impl Comparison {
     }
 
     /// The first files of the seed, by what `clear` prints. No query has more slim sets than there are sets of half of
-    /// the actions.
+    /// the actions. With no unless entry there is nothing to keep off, and both ways to a keep-off mask agree.
     pub fn clear(&mut self, program: &str, count: u64) -> io::Result<()> {
-        let (mut queries, mut none, mut most) = (0, 0, 0);
+        let (mut queries, mut none, mut most, mut kept) = (0, 0, 0, 0);
         let tally = self.each("", program, file, 0..count, |number, input| {
             let due = run(input);
             queries += due.matches("want=").count();
             none += due.matches("best=none").count();
-            if let Ok((policy, _)) = read(input) {
-                let (slim, actions) = (most_slim(&due), policy.actions.len());
+            if let Ok((policy, asked)) = read(input) {
+                let (slim, actions, keeping) = (most_slim(&due), policy.actions.len(), keeping(&due));
                 assert!(slim <= sets_of(actions / 2, actions).len(), "file {number} has more slim sets");
-                most = most.max(slim);
+                assert!(keeping == 0 || policy.has_unless(), "file {number} has something to keep off");
+                assert!(ways_agree(&policy, &asked), "file {number} has another keep-off mask");
+                (most, kept) = (most.max(slim), kept + keeping);
             }
             due
         })?;
-        let text = tally.text();
-        self.tell(&format!("clear: {text}, {queries} queries, {none} with none, at most {most} slim sets"));
+        let (text, bests) = (tally.text(), format!("{none} with none, {kept} with actions to keep off"));
+        self.tell(&format!("clear: {text}, {queries} queries, {bests}, at most {most} slim sets"));
         Ok(())
     }
 
@@ -137,7 +140,8 @@ impl Comparison {
             let before = String::from_utf8_lossy(&output(clear, &[], &input)?).into_owned();
             if !before.starts_with("refused=") {
                 compared += 1;
-                stop = self.differs("levels-", number, &input, but_fired(&before).as_bytes(), &but_fired(&due))?;
+                let [before, due] = [before, due].map(|answers| but_lines(&answers, "fired="));
+                stop = self.differs("levels-", number, &input, before.as_bytes(), &due)?;
             }
             if stop {
                 break;
@@ -242,9 +246,14 @@ fn most_slim(answers: &str) -> usize {
     counts.map(|count| count.parse().expect("a number")).max().unwrap_or(0)
 }
 
-/// The lines but those of the rules fired.
-fn but_fired(answers: &str) -> String {
-    answers.split_inclusive('\n').filter(|line| !line.starts_with("fired=")).collect()
+/// The number of queries with a keep-off mask other than 0.
+fn keeping(answers: &str) -> usize {
+    answers.lines().filter(|line| line.starts_with("keep=") && *line != "keep=0").count()
+}
+
+/// The lines but those with this key.
+pub fn but_lines(answers: &str, key: &str) -> String {
+    answers.split_inclusive('\n').filter(|line| !line.starts_with(key)).collect()
 }
 
 fn first_difference(printed: &[u8], due: &str) -> String {

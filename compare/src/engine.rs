@@ -1,6 +1,7 @@
 //! Worlds, models, and the calls Judge, Fire, Choose and List, in the plainest way: the model of each world in
 //! rounds, each set tried, and each proper subset looked at to see that a set is slim.
 
+use crate::keep::keep;
 use crate::policy::{ask, has, Policy, Query, Refusal, MOST_DECISIONS, TOP_LEVEL};
 use std::iter::successors;
 
@@ -17,6 +18,7 @@ struct SetRule {
 
 pub struct Choice {
     pub mask: u32,
+    pub keep: u32,
     pub cost: u32,
     pub slim: usize,
 }
@@ -86,7 +88,7 @@ impl<'a> Engine<'a> {
     }
 
     /// For each mask, whether it is a set (shares nothing with done) and enough.
-    fn try_each(&mut self, query: &Query) -> Vec<bool> {
+    pub fn try_each(&mut self, query: &Query) -> Vec<bool> {
         let masks = 0..1u32 << self.policy.actions.len();
         masks.map(|set| set & query.done == 0 && self.enough(query, set)).collect()
     }
@@ -130,19 +132,22 @@ impl<'a> Engine<'a> {
         Ok(Vec::new())
     }
 
-    /// None, or the best set: least cost, then smallest mask.
+    /// None, or the best set, by least cost and then smallest mask, and what to keep off it.
     pub fn choose(&mut self, query: &Query) -> Result<Option<Choice>, Refusal> {
         self.questions(query, 0)?;
         let enough = self.try_each(query);
         let sets = (0..enough.len() as u32).filter(|&set| enough[set as usize]);
         let best = sets.map(|set| (self.cost(set), set)).min();
-        Ok(best.map(|(cost, mask)| Choice { mask, cost, slim: slim_sets(&enough).len() }))
+        Ok(best.map(|(cost, mask)| {
+            let keep = keep(&enough, query.done, mask);
+            Choice { mask, keep, cost, slim: smallest(&enough).len() }
+        }))
     }
 
     /// Writes the slim sets to the lent list, and returns their count.
     pub fn list(&mut self, query: &Query, lent: &mut [u16]) -> Result<usize, Refusal> {
         self.questions(query, 0)?;
-        let slim = slim_sets(&self.try_each(query));
+        let slim = smallest(&self.try_each(query));
         ask(8, slim.len() <= lent.len())?;
         for (place, &set) in lent.iter_mut().zip(&slim) {
             *place = set as u16;
@@ -204,10 +209,10 @@ fn proper_subsets(set: u32) -> impl Iterator<Item = u32> {
     successors(Some(set), move |&subset| (subset > 0).then(|| (subset - 1) & set)).skip(1)
 }
 
-/// The sets that are enough and have no proper subset that is, in rising order. At most 3^16, some 43 million,
-/// subsets are looked at, so this is quick enough for 16 actions too.
-fn slim_sets(enough: &[bool]) -> Vec<u32> {
-    let is_enough = |&set: &u32| enough[set as usize];
-    let is_slim = |set: &u32| is_enough(set) && !proper_subsets(*set).any(|subset| is_enough(&subset));
-    (0..enough.len() as u32).filter(is_slim).collect()
+/// The masks that are marked and have no proper subset that is, in rising order; with the enough sets marked, the slim
+/// sets. At most 3^16, some 43 million, subsets are looked at, so this is quick enough for 16 actions too.
+pub fn smallest(marked: &[bool]) -> Vec<u32> {
+    let is_marked = |&set: &u32| marked[set as usize];
+    let is_smallest = |set: &u32| is_marked(set) && !proper_subsets(*set).any(|subset| is_marked(&subset));
+    (0..marked.len() as u32).filter(is_smallest).collect()
 }

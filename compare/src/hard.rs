@@ -12,6 +12,7 @@ const ALL: u32 = 65_535;
 /// Each with one query.
 pub fn hard() -> Vec<(&'static str, Case)> {
     let mut rng = Rng::new(0, 0);
+    let same = any_rules(&mut Rng::new(0, 0), 0);
     vec![
         ("at least 8 of 16: 12,870 slim sets", at_least(8, 16)),
         ("chain of 128 against file order, all 16 actions needed at its end", chain()),
@@ -19,11 +20,16 @@ pub fn hard() -> Vec<(&'static str, Case)> {
         ("the same with needs everywhere", twofold_chain(true)),
         ("256 rules, 16 levels with unless, 16 actions, 1 query", any_rules(&mut rng, 1)),
         ("256 rules, 16 actions, nothing clears", nothing(&mut rng)),
-        ("256 rules with unless at 16 levels, tangled", tangled()),
+        ("256 rules with unless at 16 levels, tangled", wanting(tangled(), 127)),
         ("terms: 240 rules for one decision", terms()),
         ("at least 4 of 16, unless as many counted from the last, nothing clears", counted_twice()),
         ("16 actions in one chain of also masks, 1 rule, nothing clears", contained(1)),
-        ("chain up with action 0 and down without it, links in turn", up_and_down()),
+        ("chain up with action 0 and down without it, links in turn", up_and_down(ALL - 1, &[])),
+        ("the same with 5 actions needed and action 0 to keep off", up_and_down(62, &[7])),
+        ("256 rules, 16 levels with unless, nothing to do, 2 to keep off", wanting(same.policy, 59)),
+        ("256 rules with unless at 16 levels, tangled, nothing to do, 4 to keep off", wanting(tangled(), 120)),
+        ("at most 8 of 16: nothing to do, 8 to keep off", between(0, 8)),
+        ("6 to 10 of 16: 8,008 slim sets, 6 to keep off", between(6, 10)),
     ]
 }
 
@@ -115,7 +121,7 @@ fn any_rules(rng: &mut Rng, queries: usize) -> Case {
 
 /// 8 decisions on each level, with two rules each: one with decisions of its level or the one below as if, and one with
 /// decisions of the two levels below as unless. Most need actions too. They stand in any order.
-fn tangled() -> Case {
+fn tangled() -> Policy {
     let mut rng = Rng::new(0, 0);
     let mut policy = of_levels((0..128).map(|d| d / 8).collect());
     for head in 0..128 {
@@ -132,7 +138,7 @@ fn tangled() -> Case {
         policy.rules.push(Rule { head, needs: needs[1], ifs: Vec::new(), unless });
     }
     rng.shuffle(&mut policy.rules);
-    wanting(policy, 127)
+    policy
 }
 
 /// Decision 0 needs one of 240 sets of 6 to 8 actions, with every fourth of them unless decision 1, which needs one of
@@ -165,6 +171,16 @@ fn counted_twice() -> Case {
     wanting(policy, 2 * count)
 }
 
+/// At least so many of the 16 actions, unless more than so many.
+fn between(least: u32, most: u32) -> Case {
+    let Case { mut policy, queries } = at_least(most as usize + 1, 16);
+    let more = queries[0].want;
+    let ifs = if least == 0 { Vec::new() } else { vec![more - most - 1 + least] };
+    policy.rules.push(Rule { head: more + 1, needs: 0, ifs, unless: vec![more] });
+    policy.levels.push(1);
+    wanting(policy, more + 1)
+}
+
 /// Random rules, and a decision on the highest level that only a circle gives.
 fn nothing(rng: &mut Rng) -> Case {
     let mut case = random(rng, &Size { queries: 0, top_level: 14, ..LARGEST });
@@ -190,8 +206,9 @@ fn contained(queries: usize) -> Case {
 
 /// Decisions 8 to 126 chain upwards in the worlds with action 0 and downwards in the others. The links of the two
 /// chains take turns in the file, so that in file order the chain down takes a pass for each link; and no order of the
-/// decisions suits both chains. Each link asks for 7 more decisions, which always hold.
-fn up_and_down() -> Case {
+/// decisions suits both chains. Each link asks for 7 more decisions, which always hold. The wanted decision asks for
+/// both ends, with these needs and unless entries.
+fn up_and_down(needs: u32, unless: &[u32]) -> Case {
     let mut policy = of_levels((0..128).map(|d| u32::from(d > 7)).collect());
     for head in 0..7 {
         policy.rules.push(Rule { head, ..Rule::default() });
@@ -205,7 +222,7 @@ fn up_and_down() -> Case {
         policy.rules.push(Rule { head: below + 1, needs: 1, ifs: with(below), unless: Vec::new() });
         policy.rules.push(Rule { head: below, needs: 0, ifs: with(below + 1), unless: vec![7] });
     }
-    policy.rules.push(Rule { head: 127, needs: ALL - 1, ifs: vec![8, 126], unless: Vec::new() });
+    policy.rules.push(Rule { head: 127, needs, ifs: vec![8, 126], unless: unless.to_vec() });
     wanting(policy, 127)
 }
 

@@ -5,6 +5,7 @@ use crate::policy::{Policy, Rule};
 use crate::random::{actions, bits, queries, random, Case, Size};
 use crate::rng::Rng;
 use crate::shapes::{at_least, tower_of};
+use crate::spoils::spoils_of;
 
 /// The actions that part the sets of one word; all further ones part words.
 const IN_A_WORD: usize = 6;
@@ -12,12 +13,13 @@ const IN_A_WORD: usize = 6;
 /// The index-th policy with many actions: the shapes take turns.
 pub fn many_actions(rng: &mut Rng, index: u64) -> Case {
     let count = if rng.once_in(3) { 16 } else { rng.within(9, 15) };
-    let mut case = match index % 6 {
+    let mut case = match index % 7 {
         0 => tangled(rng, count),
         1 => forms_of(rng, count, 3),
         2 => largest(rng, count),
         3 => tower(rng, count),
         4 => odd(rng, count),
+        5 => spoils_of(rng, count),
         _ => some_of_many(rng, count),
     };
     let asked = rng.within(1, 3);

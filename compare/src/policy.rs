@@ -69,6 +69,10 @@ impl Policy {
         self.levels[decision as usize]
     }
 
+    pub fn has_unless(&self) -> bool {
+        self.rules.iter().any(|rule| !rule.unless.is_empty())
+    }
+
     /// Question 3, to all that the record holds.
     pub fn in_range(&self) -> bool {
         self.in_range_but_levels() && self.levels.iter().all(|&level| level <= TOP_LEVEL)

@@ -167,7 +167,7 @@ fn choose(engine: &mut Engine, query: &Query) -> String {
         Err(number) => format!("refused={number}"),
         Ok(None) => "none".to_string(),
         Ok(Some(choice)) => {
-            format!("mask={} cost={} slim={}", choice.mask, choice.cost, choice.slim)
+            format!("mask={} keep={} cost={} slim={}", choice.mask, choice.keep, choice.cost, choice.slim)
         }
     }
 }

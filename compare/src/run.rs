@@ -29,7 +29,7 @@ fn answer(engine: &mut Engine, query: &Query) -> Result<String, Refusal> {
     let count = engine.list(query, &mut lent)?;
     let fired = engine.fire(query, best.mask)?;
     assert!(engine.is_derivation(query, best.mask, &fired));
-    write!(text, "best={}\ncost={}\nslim={}\n", best.mask, best.cost, best.slim).expect("text");
+    write!(text, "best={}\nkeep={}\ncost={}\nslim={}\n", best.mask, best.keep, best.cost, best.slim).expect("text");
     write!(text, "list={}\nfired={}\n", commas(&lent[..count]), commas(&fired)).expect("text");
     Ok(text)
 }

@@ -4,9 +4,10 @@ use crate::forms::forms;
 use crate::policy::{Action, Policy, Query, Rule};
 use crate::random::{actions, bits, full, large, mask, medium, queries, rule, small, Case};
 use crate::rng::Rng;
+use crate::spoils::spoils;
 
 /// In so many valid policies each shape has its turn.
-const TURNS: u64 = 15;
+const TURNS: u64 = 18;
 
 /// The index-th valid policy: the shapes take turns.
 pub fn valid(rng: &mut Rng, index: u64) -> Case {
@@ -21,6 +22,7 @@ pub fn valid(rng: &mut Rng, index: u64) -> Case {
         10 => large(rng),
         11 => all_of_several(rng),
         12 | 13 => forms(rng),
+        14..=16 => spoils(rng),
         _ => full(rng, index / TURNS),
     }
 }

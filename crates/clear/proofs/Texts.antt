@@ -23,7 +23,8 @@ use Rattle.clear.specs.Printed.{written, answerText, setsListed, rulesFi
 -- the lines of a choice, with the sets listed and the rules fired
 pub choice-lines : (c : Choice) (sets rules : List ℕ)
     → (lineOf (ascii "best") (decimal (c .mask))
-    ++ (lineOf (ascii "cost") (decimal (c .cost)) ++ lineOf (ascii "slim") (decimal (c .slim))))
+    ++ (lineOf (ascii "keep") (decimal (c .keep))
+    ++ (lineOf (ascii "cost") (decimal (c .cost)) ++ lineOf (ascii "slim") (decimal (c .slim)))))
     ++ (lineOf (ascii "list") (commas sets) ++ lineOf (ascii "fired") (commas rules))
     ≡ answerText (Chosen c) sets (λ _. rules)
 unfolding answerText

@@ -25,10 +25,11 @@ answerText (choose-refused n) sets rules = refusedText n
 answerText None sets rules = lineOf (ascii "best") (ascii "none")
 answerText (Chosen c) sets rules =
     lineOf (ascii "best") (decimal (c .mask))
+    ++ (lineOf (ascii "keep") (decimal (c .keep))
     ++ (lineOf (ascii "cost") (decimal (c .cost))
     ++ (lineOf (ascii "slim") (decimal (c .slim))
     ++ (lineOf (ascii "list") (commas sets)
-    ++ lineOf (ascii "fired") (commas (rules (c .mask))))))
+    ++ lineOf (ascii "fired") (commas (rules (c .mask)))))))
 
 module _ (p : Policy) (q : Query) where
   -- the sets that List writes into 12,870 places: the entries below the number that it returns

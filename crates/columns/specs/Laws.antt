@@ -2,6 +2,7 @@
 pub mod Columns
 pub mod Picked
 pub mod Offered
+pub mod Holding
 pub mod Spread
 pub mod Worlds
 pub mod Needed

@@ -5,7 +5,7 @@ use lib.Dec.{ltb, leb}
 use lib.Bits.{bitAnd, bitOr}
 use lib.ListN.{getD}
 use mathlib.Core.List.{List}
-use Rattle.mask.specs.Mask.{has, disjoint}
+use Rattle.mask.specs.Mask.{has, contains, disjoint}
 use Rattle.mask.specs.Packed.{packed, table}
 
 -- the i-th set
@@ -27,6 +27,10 @@ isOffered m done s = ltb s (2 ^ m) && disjoint s done
 -- those that are offered
 unfoldable pub offeredOf : ℕ → ℕ → ℕ → ℕ
 offeredOf m done w = packed 64 (λ i. isOffered m done (setAt w i))
+
+-- those that contain the set
+unfoldable pub holdingOf : ℕ → ℕ → ℕ
+holdingOf set w = packed 64 (λ i. contains (setAt w i) set)
 
 -- no offered set has action a
 abbrev pub isShut : ℕ → ℕ → ℕ → Bool

@@ -4,14 +4,14 @@ ghost use Prim.Native.Nat.{_≤_, _<_, _^_};
 ghost use Rattle.model.specs.World.{worldIn};
 ghost use Rattle.mask.specs.Mask.{has};
 ghost use Rattle.mask.specs.Packed.{table};
-ghost use Rattle.columns.specs.Sets.{columnOf, isShut, offeredOf, gathered, fourOf, foursOf, neededOf};
+ghost use Rattle.columns.specs.Sets.{columnOf, isShut, offeredOf, holdingOf, gathered, fourOf, foursOf, neededOf};
 use policy::Action;
 
 // Every set.
 const ALL: u64 = 0xFFFFFFFFFFFFFFFF;
 
 // For each of the lowest six actions, the places whose number has it.
-const LOW: [u64; 6] = [
+pub const LOW: [u64; 6] = [
     0xAAAAAAAAAAAAAAAA,
     0xCCCCCCCCCCCCCCCC,
     0xF0F0F0F0F0F0F0F0,
@@ -57,6 +57,19 @@ pub fn offered(actions: u8, done: u16, w: u16) -> u64
     for a in 0..16usize {
         if shut(a, actions, done) {
             sets = sets ^ (sets & column(a, w));
+        }
+    }
+    sets
+}
+
+// The sets that contain the set.
+pub fn holding(set: u16, w: u16) -> u64
+    ensures { λ r. ⌜ r ≡ holdingOf set w ⌝ }
+{
+    let mut sets = ALL;
+    for a in 0..16usize {
+        if mask::has(set, a) {
+            sets = sets & column(a, w);
         }
     }
     sets

@@ -14,7 +14,7 @@ use Rattle.engine.specs.declared.Answer.{Answer}
 use Rattle.engine.specs.declared.Answer.the-variants.{Refused as choose-refused, None, Chosen}
 use Rattle.engine.specs.declared.Listing.{Listing}
 use Rattle.engine.specs.declared.Listing.the-variants.{Refused as list-refused, Listed}
-use Rattle.engine.specs.Sets.{costOf, Enough, Best, Lists}
+use Rattle.engine.specs.Sets.{costOf, Enough, Best, BestKeep, Lists}
 use Rattle.engine.specs.Calls.{offerQuestions, listQuestions, slimSets}
 
 -- n is the number of the first question answered no
@@ -39,7 +39,8 @@ module _ (p : Policy) (q : Query) where
   abbrev pub Chooses : Answer → Type 0
   Chooses (choose-refused n) = Refuses (queryQuestions p q) n
   Chooses None = Accepted p q × ((s : ℕ) → Enough p q s → ⊥)
-  Chooses (Chosen c) = Accepted p q × Best p q (c .mask) × (c .cost ≡ costOf p (c .mask)) × SlimCount (c .slim)
+  Chooses (Chosen c) =
+      Accepted p q × Best p q (c .mask) × BestKeep p q (c .mask) (c .keep) × (c .cost ≡ costOf p (c .mask)) × SlimCount (c .slim)
 
   -- what List answers, and what the lent list holds before and after
   abbrev pub ListsSlim : List ℕ → List ℕ → Listing → Type 0

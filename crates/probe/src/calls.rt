@@ -139,6 +139,7 @@ pub(crate) fn choose(policy: Policy, query: Query) -> u32 {
         }
         Answer::Chosen(choice) => {
             keyed(b"mask=", choice.mask as u32);
+            keyed(b" keep=", choice.keep as u32);
             keyed(b" cost=", choice.cost);
             keyed(b" slim=", choice.slim);
             choice.slim

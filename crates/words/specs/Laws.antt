@@ -6,4 +6,6 @@ pub mod Level
 pub mod Right
 pub mod Room
 pub mod Settled
+pub mod Wanted
+pub mod Known
 pub mod Alike

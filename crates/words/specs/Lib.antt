@@ -2,4 +2,5 @@
 pub mod Models
 pub mod Words
 pub mod Right
+pub mod Known
 pub mod Laws

@@ -10,6 +10,7 @@ ghost use Rattle.policy.specs.Questions.{Accepted};
 ghost use Rattle.columns.specs.Sets.{neededOf};
 ghost use Rattle.order.specs.Order.{Ordered, Used};
 ghost use Rattle.words.specs.Models.{modelOf, wordOf};
+ghost use Rattle.words.specs.Known.{Known};
 ghost use Rattle.words.specs.Right.{AreWords, Right, Enabling, Planned, Worked};
 use adding::add;
 use policy::Policy;
@@ -162,4 +163,26 @@ pub fn wanted(policy: Policy, query: Query, plan: Plan, w: u16) -> u64
     let count = policy.level[want] as usize + 1;
     let word = worked(policy, query, plan, w, count);
     word[want]
+}
+
+// The same, read in `cleared` where `known` marks the word w, so that none is worked twice.
+pub fn recalled(
+    policy: Policy,
+    query: Query,
+    plan: Plan,
+    cleared: &[u64; 1024],
+    known: &[bool; 1024],
+    w: u16,
+) -> u64
+    requires { ⌜ Accepted policy query ⌝ }
+    requires { ⌜ Planned policy query (plan .base) (plan .leads) (plan .rules) (plan .start) (plan .uses) ⌝ }
+    requires { ⌜ Known policy query (now cleared) (now known) ⌝ }
+    requires { ⌜ w ≤ 1023 ⌝ }
+    ensures { λ r. ⌜ r ≡ wordOf policy query w (query .want) ⌝ }
+{
+    let at = w as usize;
+    if known[at] {
+        return cleared[at];
+    }
+    wanted(policy, query, plan, w)
 }

@@ -34,6 +34,7 @@ answer-length (Chosen c) sets rules few each =
       arith,
       few,
       ten-digits (c .mask),
+      ten-digits (c .keep),
       ten-digits (c .cost),
       ten-digits (c .slim),
       each (c .mask),
@@ -58,7 +59,7 @@ module _ (p : Policy) (q : Query) where
   unfolding answerText refusedText chooseOf Accepted
   answer-fits = elim (ℕ-discrete (firstNo (queryQuestions p q)) 0) [
     | yes ok ↦ answer-length (chooseOf p q) (setsListed p q) (rulesFired p q) (sets-length ok) rules-length
-    | no not ↦ rw (refused (firstNo (queryQuestions p q)) choose-refused (answer p (length (slimSets p q)) (best p q)) not, line-length)
+    | no not ↦ rw (refused (firstNo (queryQuestions p q)) choose-refused (answer p q (length (slimSets p q)) (best p q)) not, line-length)
         (omega (arith, ten-digits (firstNo (queryQuestions p q))))
   ]
 

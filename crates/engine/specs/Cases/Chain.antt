@@ -14,7 +14,7 @@ use Rattle.policy.specs.Cases.{chain, ask}
 use Rattle.model.specs.World.{worldOf, worldIn, followed, alsoes, InWorld, start, follow, steps}
 use Rattle.model.specs.Fire.{firedOf, fits, fires, tried, pass, passes, upTo}
 use Rattle.engine.specs.Sets.{costOf, weighed, Enough, Slim, Best}
-use Rattle.engine.specs.Family.{takenWithin, minimal, lightest, lighter}
+use Rattle.mask.specs.Family.{takenWithin, minimal, lightest, lighter}
 use Rattle.engine.specs.Calls.{best, clears, enough, firedFor, slim}
 use Rattle.engine.specs.Laws.Decide.{best-found}
 use Rattle.engine.specs.Cases.Decided.{is-enough, is-slim}

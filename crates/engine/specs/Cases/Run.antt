@@ -3,6 +3,7 @@ use mathlib.Core.Bool.{true, false}
 use mathlib.Core.List.{[], _∷_}
 use mathlib.Core.Option.{none, some}
 use mathlib.Core.Path.{_≡_, refl}
+use lib.Count.{ones, onesIn}
 use Rattle.mask.specs.Every.{every, everyBelow, someBelow}
 use Rattle.policy.specs.Questions.{firstNo, questions, queryInRange, inRange, othersInRange, countsInRange, levelInRange}
 use Rattle.policy.specs.Questions.{actionInRange, ruleInRange, listInRange, listsRise, ruleRises, rises, levelsFit, ruleLevelsFit}
@@ -10,18 +11,19 @@ use Rattle.policy.specs.Questions.{levelsBelow, weightsFit, outweighs, heavier,
 use Rattle.policy.specs.Cases.{sample, ask}
 use Rattle.model.specs.World.{worldOf, worldIn, followed, alsoes}
 use Rattle.model.specs.Fire.{firedOf, fits, fires, tried, pass, passes, upTo}
+use Rattle.keep.specs.Keep.{foundOr0, spoilt, keepsOff, keepOf}
 use Rattle.engine.specs.declared.Answer.the-variants.{None, Chosen}
 use Rattle.engine.specs.Sets.{costOf, weighed}
-use Rattle.engine.specs.Family.{among, takenWithin, minimal, lightest, lighter}
-use Rattle.engine.specs.Calls.{chooseOf, answer, refusedOr, best, clears, enough, firedFor, slimSets, slim}
+use Rattle.mask.specs.Family.{among, takenWithin, minimal, lightest, lighter}
+use Rattle.engine.specs.Calls.{chooseOf, answer, refusedOr, best, clears, enough, firedFor, slimSets, slim, keepFor}
 
 -- what the printed run says
 pub record Run : Type 0 where
-  pub first : chooseOf sample (ask 0 0) ≡ Chosen (record { mask = 4; cost = 4; slim = 3 })
+  pub first : chooseOf sample (ask 0 0) ≡ Chosen (record { mask = 4; keep = 2; cost = 4; slim = 3 })
   pub first-list : slimSets sample (ask 0 0) ≡ 1 ∷ 4 ∷ 8 ∷ []
   pub first-fired : firedFor sample (ask 0 0) 4 ≡ 1 ∷ 3 ∷ []
   pub second : chooseOf sample (ask 0 2) ≡ None
-  pub third : chooseOf sample (ask 0 8) ≡ Chosen (record { mask = 0; cost = 0; slim = 1 })
+  pub third : chooseOf sample (ask 0 8) ≡ Chosen (record { mask = 0; keep = 2; cost = 0; slim = 1 })
   pub third-list : slimSets sample (ask 0 8) ≡ 0 ∷ []
   pub third-fired : firedFor sample (ask 0 8) 0 ≡ 0 ∷ 3 ∷ []
 
@@ -30,7 +32,7 @@ unfolding sample every everyBelow someBelow firstNo questions queryInRange inRan
     ruleInRange listInRange listsRise ruleRises rises levelsFit ruleLevelsFit levelsBelow weightsFit outweighs heavier
     worldOf worldIn followed alsoes firedOf fits fires
     tried pass passes upTo costOf weighed among takenWithin minimal lightest lighter chooseOf answer refusedOr best clears
-    enough firedFor slimSets slim
+    enough firedFor slimSets slim ones onesIn foundOr0 spoilt keepsOff keepOf keepFor
 run = record {
   first = refl;
   first-list = refl;

@@ -5,12 +5,15 @@ use mathlib.Core.Option.{Option, none, some}
 use mathlib.Core.Path.{_≡_, refl, _∙_, ap}
 use lib.ListN.{length}
 use Rattle.mask.specs.Mask.{contains}
-use Rattle.mask.specs.Laws.Tests.{choice, someBelow-same}
+use Rattle.mask.specs.Family.{among, takenWithin, minimal, lightest}
+use Rattle.mask.specs.Laws.Lightest.{lightest-same}
+use Rattle.mask.specs.Laws.Tests.{someBelow-same}
 use Rattle.policy.specs.declared.Policy.{Policy}
 use Rattle.policy.specs.declared.Query.{Query}
+use Rattle.keep.specs.Keep.{keepOf}
+use Rattle.keep.specs.Laws.Same.{keepOf-same}
 use Rattle.engine.specs.Sets.{costOf}
-use Rattle.engine.specs.Family.{among, lighter, takenWithin, minimal, lightest}
-use Rattle.engine.specs.Calls.{refusedOr, answer, clears, slim, slimSets, best}
+use Rattle.engine.specs.Calls.{refusedOr, answer, clears, slim, slimSets, best, keepFor}
 use Rattle.engine.specs.Laws.Among.{among-same}
 
 -- refusals by the same number, or the same answers
@@ -25,20 +28,6 @@ unfolding minimal takenWithin
 minimal-same f g e s =
     rw (e s, someBelow-same s (λ t. contains s t && f t) (λ t. contains s t && g t) (λ t h. rw (e t)))
 
--- and with the same costs the same lightest one
-lighter-same : (c d : ℕ → ℕ) → ((s : ℕ) → c s ≡ d s) → (o : Option ℕ) (s : ℕ) → lighter c o s ≡ lighter d o s
-unfolding lighter
-lighter-same c d e none s = refl
-lighter-same c d e (some b) s = rw (e s, e b)
-
-lightest-same : (f g : ℕ → Bool) (c d : ℕ → ℕ) → ((s : ℕ) → f s ≡ g s) → ((s : ℕ) → c s ≡ d s)
-    → (n : ℕ) → lightest f c n ≡ lightest g d n
-unfolding lightest
-lightest-same f g c d e h zero = refl
-lightest-same f g c d e h (suc n) = choice (e n)
-    (ap (λ (o : Option ℕ). lighter c o n) (lightest-same f g c d e h n) ∙ lighter-same c d h (lightest g d n) n)
-    (lightest-same f g c d e h n)
-
 module _ (p p′ : Policy) (q : Query) (actions : p .actions ≡ p′ .actions) (clear : (s : ℕ) → clears p q s ≡ clears p′ q s) where
   -- the slim sets
   pub slim-sets-alike : slimSets p q ≡ slimSets p′ q
@@ -47,18 +36,24 @@ module _ (p p′ : Policy) (q : Query) (actions : p .actions ≡ p′ .actions) 
       among-same (slim p q) (slim p′ q) (2 ^ p .actions) (λ s h. minimal-same (clears p q) (clears p′ q) clear s)
       ∙ ap (λ (n : ℕ). among (slim p′ q) (2 ^ n)) actions
 
+  -- what not to touch beside a set
+  keep-alike : (s : ℕ) → keepFor p q s ≡ keepFor p′ q s
+  unfolding keepFor
+  keep-alike s = keepOf-same (clears p q) (clears p′ q) clear (p .actions) s (q .done)
+      ∙ ap (λ (m : ℕ). keepOf (clears p′ q) m s (q .done)) actions
+
   -- the best set, and the answer that names it
   module _ (cost : (s : ℕ) → costOf p s ≡ costOf p′ s) where
     best-alike : best p q ≡ best p′ q
     unfolding best
     best-alike =
-        lightest-same (clears p q) (clears p′ q) (costOf p) (costOf p′) clear cost (2 ^ p .actions)
+        lightest-same (clears p q) (clears p′ q) (costOf p) (costOf p′) (2 ^ p .actions) (λ s h. clear s) cost
         ∙ ap (λ (n : ℕ). lightest (clears p′ q) (costOf p′) (2 ^ n)) actions
 
-    answer-by : (n : ℕ) (o : Option ℕ) → answer p n o ≡ answer p′ n o
+    answer-by : (n : ℕ) (o : Option ℕ) → answer p q n o ≡ answer p′ q n o
     unfolding answer
     answer-by n none = refl
-    answer-by n (some s) = rw (cost s)
+    answer-by n (some s) = rw (cost s, keep-alike s)
 
-    pub answer-alike : answer p (length (slimSets p q)) (best p q) ≡ answer p′ (length (slimSets p′ q)) (best p′ q)
+    pub answer-alike : answer p q (length (slimSets p q)) (best p q) ≡ answer p′ q (length (slimSets p′ q)) (best p′ q)
     answer-alike = rw (slim-sets-alike, best-alike) (answer-by (length (slimSets p′ q)) (best p′ q))

@@ -65,7 +65,7 @@ module _ (p : Policy) (q : Query) (t : T (inRange p)) where
   slim-sets-cut : slimSets (cut p) q ≡ slimSets p q
   slim-sets-cut = slim-sets-alike (cut p) p q refl clears-cut
 
-  answer-cut : answer (cut p) (length (slimSets (cut p) q)) (best (cut p) q) ≡ answer p (length (slimSets p q)) (best p q)
+  answer-cut : answer (cut p) q (length (slimSets (cut p) q)) (best (cut p) q) ≡ answer p q (length (slimSets p q)) (best p q)
   answer-cut = answer-alike (cut p) p q refl clears-cut (cost-cut p)
 
 -- the levels found

@@ -17,6 +17,7 @@ use Rattle.engine.specs.Calls.{judgeOf, chooseOf, listOf, listAfter}
 use Rattle.engine.specs.Meaning.{Judges, Chooses, ListsSlim}
 use Rattle.engine.specs.Laws.Refusals.{offer-accepted, list-accepted}
 use Rattle.engine.specs.Laws.Decide.{enough-iff, best-found, none-found, lists}
+use Rattle.engine.specs.Laws.Keep.{keep-best}
 
 module _ (p : Policy) (q : Query) where
   pub judge-means : (s : ℕ) → Judges p q s (judgeOf p q s)
@@ -29,17 +30,18 @@ module _ (p : Policy) (q : Query) where
       go (suc n) e = (e, λ z. omega arith)
 
   -- what was found is the best set, or no set is enough
-  answer-means : Accepted p q → (o : Option ℕ) → best p q ≡ o → Chooses p q (answer p (length (slimSets p q)) o)
+  answer-means : Accepted p q → (o : Option ℕ) → best p q ≡ o → Chooses p q (answer p q (length (slimSets p q)) o)
   unfolding answer
   answer-means ok none e = (ok, none-found p q ok e)
-  answer-means ok (some s) e = (ok, best-found p q ok s e, refl, (lists p q ok, refl))
+  answer-means ok (some s) e =
+      let b = best-found p q ok s e in (ok, b, keep-best p q ok s (b .enough), refl, (lists p q ok, refl))
 
   pub choose-means : Chooses p q (chooseOf p q)
   unfolding chooseOf refusedOr Accepted
   choose-means = go (firstNo (queryQuestions p q)) refl
     where
       go : (n : ℕ) → firstNo (queryQuestions p q) ≡ n
-          → Chooses p q (refusedOr n choose-refused (answer p (length (slimSets p q)) (best p q)))
+          → Chooses p q (refusedOr n choose-refused (answer p q (length (slimSets p q)) (best p q)))
       go zero e = answer-means e (best p q) refl
       go (suc n) e = (e, λ z. omega arith)
 

@@ -1,5 +1,5 @@
 -- The words of sixty-four sets say what Judge says of each set, with the word's decision as want.
-use Prim.Native.Nat.{ℕ, zero, suc, _/_, _%_, _^_, _≤_, _<_}
+use Prim.Native.Nat.{ℕ, zero, suc, _^_, _≤_, _<_}
 use mathlib.Core.Bool.{Bool, false, _&&_, and-true, and-false}
 use mathlib.Core.Path.{_≡_, refl, sym, _∙_, ap, subst}
 use native.Mathlib.Decide.{decLt, ℕ-discrete}
@@ -14,7 +14,7 @@ use Rattle.mask.specs.Laws.Tests.{is-true, is-false, and-make, and-left, and-ri
 use Rattle.policy.specs.declared.Policy.{Policy}
 use Rattle.policy.specs.declared.Query.{Query}
 use Rattle.policy.specs.Questions.{firstNo, questions, queryInRange, queryQuestions, isDecision, isMask, Accepted}
-use Rattle.policy.specs.Laws.{firstNo-zero, accepted, answers, answered-with, accepted-range, accepted-want}
+use Rattle.policy.specs.Laws.{firstNo-zero, accepted, answers, answered-with, accepted-range}
 use Rattle.columns.specs.Sets.{setAt}
 use Rattle.columns.specs.Laws.Columns.{none-set}
 use Rattle.words.specs.Models.{asking, bitOf, wordOf, modelOf}
@@ -28,29 +28,6 @@ use Rattle.engine.specs.Laws.{judge-is}
 use Rattle.engine.specs.Laws.Decide.{enough-iff}
 use Rattle.engine.specs.Laws.Refusals.{answered, refused}
 
--- ---- the word in hand of a survey
--- it is that of the decision wanted
-pub record InHand (p : Policy) (q : Query) (w word : ℕ) : Type 0 where
-  pub within : w ≤ 1023
-  pub said : word ≡ wordOf p q w (q .want)
-
--- a bit of the word of the decision wanted says whether the set clears
-pub clears-bit : (p : Policy) (q : Query) → Accepted p q → (w i : ℕ) → i < 64 → setAt w i < 2 ^ p .actions
-    → has (wordOf p q w (q .want)) i ≡ clears p q (setAt w i)
-unfolding wordOf bitOf
-clears-bit p q ok w i k h = packed-bit 64 (bitOf p q w (q .want)) i k
-    ∙ rw (lt-ltb (q .want) (p .decisions) (accepted-want p q ok), lt-ltb (setAt w i) (2 ^ p .actions) h) refl
-
--- so the bit of a set in the word that holds it does
-pub clears-there : (p : Policy) (q : Query) → Accepted p q → (s : ℕ) {w word : ℕ} → InHand p q w word → w ≡ s / 64 → s < 2 ^ p .actions
-    → has word (s % 64) ≡ clears p q s
-clears-there p q ok s {w} {word} hand e h =
-    let whole : setAt (s / 64) (s % 64) ≡ s = omega arith in
-    ap (λ (x : ℕ). has x (s % 64)) (hand .said ∙ ap (λ (x : ℕ). wordOf p q x (q .want)) e)
-    ∙ clears-bit p q ok (s / 64) (s % 64) (omega arith) (subst (λ (x : ℕ). x < 2 ^ p .actions) (sym whole) h)
-    ∙ ap (clears p q) whole
-
--- ---- the call
 -- no bit of 0 is set
 zero-bit : (i : ℕ) → has 0 i ≡ false
 zero-bit i = is-false (has 0 i) (has-none i)

@@ -1,19 +1,17 @@
 -- What a packed word is known by: its bits.
-use Prim.Native.Nat.{ℕ, zero, suc, _+_, _-_, _*_, _/_, _%_, _^_, _≤_, _<_}
+use Prim.Native.Nat.{ℕ, zero, suc, _+_, _*_, _/_, _%_, _^_, _≤_, _<_}
 use mathlib.Core.Bool.{Bool, true, false, _&&_, not, cond}
 use mathlib.Core.List.{List}
 use mathlib.Core.Path.{_≡_, refl, sym, _∙_, ap, subst}
 use native.Mathlib.Omega.{arith}
-use borrow.Author.Tests.{eq-eqb}
 use lib.Arith.{digits-mod}
 use lib.Bits.{bitAnd, bitXor, differ, xor-shr, xor-step}
-use lib.Dec.{T, eqb, eqb→eq, lit<}
+use lib.Dec.{T, eqb, lit<}
 use lib.ListN.{length, getD}
 use lib.Seq.{ext-getD}
 use Rattle.mask.specs.Mask.{has}
 use Rattle.mask.specs.Packed.{packed, table}
-use Rattle.mask.specs.Laws.{digit, has-low, has-high, has-and, has→<, has-without, one-has, one-is, ⊆-antisym}
-use Rattle.mask.specs.Laws.Tests.{same, passes}
+use Rattle.mask.specs.Laws.{digit, has-low, has-high, has-and, has→<, ⊆-antisym}
 
 -- the members of a that are not in b
 abbrev pub minus : ℕ → ℕ → ℕ
@@ -42,17 +40,6 @@ take-away false b = refl
 
 pub has-minus : (a b i : ℕ) → has (minus a b) i ≡ (has a i && not (has b i))
 has-minus a b i = has-xor a (bitAnd a b) i ∙ rw (has-and a b i, take-away (has a i) (has b i))
-
--- the set of one member
-one-is-only : (i j : ℕ) → has (2 ^ i) j ≡ eqb j i
-one-is-only i j = same (has (2 ^ i) j) (eqb j i) (λ t. passes (eqb j i) (eq-eqb j i (one-is i j t))) (λ t. rw (eqb→eq j i t) (one-has i))
-
--- a set without one of its members
-pub minus-one : (s i : ℕ) → T (has s i) → minus s (2 ^ i) ≡ s - 2 ^ i
-minus-one s i t = ⊆-antisym (minus s (2 ^ i)) (s - 2 ^ i) (λ j u. subst T (sym (both j)) u) (λ j u. subst T (both j) u)
-  where
-    both : (j : ℕ) → has (s - 2 ^ i) j ≡ has (minus s (2 ^ i)) j
-    both j = has-without s i j t ∙ ap (λ (x : Bool). has s j && not x) (sym (one-is-only i j)) ∙ sym (has-minus s (2 ^ i) j)
 
 digit-lt : (b : Bool) → cond b 1 0 < 2
 digit-lt true = lit< tt

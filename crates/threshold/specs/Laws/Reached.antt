@@ -21,7 +21,7 @@ use Rattle.policy.specs.Record.{noAction}
 use Rattle.model.specs.World.{alsoes, followed, worldIn, worldOf}
 use Rattle.model.specs.Derivation.{Derivable}
 use Rattle.engine.specs.declared.Listing.the-variants.{Refused}
-use Rattle.engine.specs.Family.{among}
+use Rattle.mask.specs.Family.{among}
 use Rattle.engine.specs.Sets.{mostSlim, Enough, Slim}
 use Rattle.engine.specs.Calls.{slim, slimSets, listQuestions, listOf}
 use Rattle.engine.specs.Laws.Among.{among-same, among-counted}

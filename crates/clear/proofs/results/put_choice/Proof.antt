@@ -10,12 +10,13 @@ unfolding lineOf
 returns c =
     let slim = c .before .before in
     let cost = slim .before .before .before .before .before in
-    let best = cost .before .before .before .before .before in
-    both (best .line .ensures) (both (cost .line2 .ensures) (slim .line3 .ensures))
+    let keep = cost .before .before .before .before .before in
+    let best = keep .before .before .before .before .before in
+    both (best .line .ensures) (both (keep .line2 .ensures) (both (cost .line3 .ensures) (slim .line4 .ensures)))
 
 pub put-choice-spec : {M : Type 1} → statement M
 put-choice-spec =
     tie.close
     (tie.spec
-    (λ c. search needs) (λ c. search needs) (λ c κs. search needs) (λ c. search needs) (λ c κs. search needs) (λ c. search needs)
-    (λ c κs. search needs) (λ c. search needs) returns)
+    (λ c. search needs) (λ c. search needs) (λ c. search needs) (λ c κs. search needs) (λ c. search needs) (λ c κs. search needs)
+    (λ c. search needs) (λ c κs. search needs) (λ c. search needs) (λ c κs. search needs) (λ c. search needs) returns)
