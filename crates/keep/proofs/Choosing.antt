@@ -66,8 +66,8 @@ module _ {takes : ℕ → Bool} {sets n best least : ℕ} (so : Choosing takes s
       case false e = choosing-skip e
 
 -- several sets that have as many actions or more are passed over
-pub choosing-leap : {takes : ℕ → Bool} {sets n best least : ℕ} → Choosing takes sets n best least → (m : ℕ) → n ≤ m → m ≤ sets → sets ≤ 2 ^ 16
-    → ((t : ℕ) → n ≤ t → t < m → least ≤ ones t) → Choosing takes sets m best least
+pub choosing-leap : {takes : ℕ → Bool} {sets n best least : ℕ} → Choosing takes sets n best least → (m : ℕ) → n ≤ m → m ≤ sets
+    → sets ≤ 2 ^ 16 → ((t : ℕ) → n ≤ t → t < m → least ≤ ones t) → Choosing takes sets m best least
 choosing-leap {takes} {sets} {n} {best} {least} so m h l few more =
     le-ind (λ (k : ℕ). k ≤ m → Choosing takes sets k best least) (λ le. so)
     (λ (k : ℕ) (g : n ≤ k) ih le. subst (λ (i : ℕ). Choosing takes sets i best least) (add-one k)

@@ -13,7 +13,8 @@ use lib.Seq.{getD-set-same, getD-set-other}
 use Rattle.mask.specs.Mask.{has, _⊆_}
 use Rattle.mask.specs.Every.{someBelow}
 use Rattle.mask.specs.Laws.{has-or, has-none, has→<, without-⊆, without-<, proper-⊆-without}
-use Rattle.mask.specs.Laws.Tests.{same, is-false, either, and-make, and-left, and-right, and-same, or-left, or-right, or-cases, someBelow-at, someBelow-make, someBelow-same}
+use Rattle.mask.specs.Laws.Tests.{same, is-false, either, and-make, and-left, and-right, and-same, or-left, or-right, or-cases}
+use Rattle.mask.specs.Laws.Tests.{someBelow-at, someBelow-make, someBelow-same}
 use Rattle.mask.specs.Laws.Minimal.{covered, covered-at, covered-make}
 use Rattle.columns.specs.Laws.Picked.{picked-joins}
 use Rattle.covers.specs.Covers.{Marks, Table, Members, markedIn, closedOf, lowOf, coveredOf}
@@ -80,7 +81,9 @@ module _ (takes : ℕ → Bool) (table : List ℕ) (w : ℕ) (small : w < 1024)
 
     -- the next word is right
     pub marks-next : Marks (covered takes) w (coveredOf members (lowOf table w))
-    marks-next = record { bits = λ i s. same (has (closedOf (bitOr members (lowOf table w)) 6) i) (covered takes (64 * w + i)) (there i s) (back i s) }
+    marks-next = record {
+      bits = λ i s. same (has (closedOf (bitOr members (lowOf table w)) 6) i) (covered takes (64 * w + i)) (there i s) (back i s);
+    }
 
 -- ---- a table that is filled from the first word on
 pub table-none : {test : ℕ → Bool} {table : List ℕ} → length table ≡ 1024 → Table test 0 table
@@ -100,8 +103,8 @@ table-more {test} {n} {word} {table} so h marks = record {
 }
 
 -- the next word, of the sets with a subset in the family
-pub table-next : {takes : ℕ → Bool} {n low members next : ℕ} {table : List ℕ} → Table (covered takes) n table → n < 1024 → low ≡ lowOf table n
-    → Members takes n low members → next ≡ coveredOf members low → Table (covered takes) (n + 1) (set table n next)
+pub table-next : {takes : ℕ → Bool} {n low members next : ℕ} {table : List ℕ} → Table (covered takes) n table → n < 1024
+    → low ≡ lowOf table n → Members takes n low members → next ≡ coveredOf members low → Table (covered takes) (n + 1) (set table n next)
 table-next {takes} {n} {low} {members} {next} {table} so h l taken e = table-more so h
     (subst (Marks (covered takes) n) (sym (e ∙ ap (coveredOf members) l))
     (marks-next takes table n h (so .right) members (subst (λ (x : ℕ). Members takes n x members) l taken)))

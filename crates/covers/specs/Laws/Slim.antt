@@ -105,8 +105,8 @@ module _ (takes : ℕ → Bool) (table : List ℕ) (w : ℕ) (small : w < 1024)
       all = closedOf (bitOr members (lowOf table w)) 6
 
 -- the word of the minimal members, by the words that the code has at hand
-pub slim-word : {takes : ℕ → Bool} {n low members next : ℕ} {table : List ℕ} → Table (covered takes) n table → n < 1024 → low ≡ lowOf table n
-    → Members takes n low members → next ≡ slimOf members low → Marks (minimal takes) n next
+pub slim-word : {takes : ℕ → Bool} {n low members next : ℕ} {table : List ℕ} → Table (covered takes) n table → n < 1024
+    → low ≡ lowOf table n → Members takes n low members → next ≡ slimOf members low → Marks (minimal takes) n next
 slim-word {takes} {n} {low} {members} {next} {table} so h l taken e =
     subst (Marks (minimal takes) n) (sym (e ∙ ap (slimOf members) l))
     (slim-next takes table n h (so .right) members (subst (λ (x : ℕ). Members takes n x members) l taken))

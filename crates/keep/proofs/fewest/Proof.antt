@@ -58,11 +58,15 @@ Else1 = tie.Else1 Inv-loop μ-loop
 lowest : (c : Else1) → trailingZeros 16 (c .before .before .loop .s) ≤ 16
 lowest c = trailing-le 16 (c .before .before .loop .s)
 
-bit : (c : Else1) → 1 * 2 ^ trailingZeros 16 (c .before .before .loop .s) % 18446744073709551616 ≡ 2 ^ trailingZeros 16 (c .before .before .loop .s)
+bit : (c : Else1) →
+    let s = c .before .before .loop .s in
+    1 * 2 ^ trailingZeros 16 s % 18446744073709551616 ≡ 2 ^ trailingZeros 16 s
 bit c = worth (trailingZeros 16 (c .before .before .loop .s)) 64 (omega (arith, lowest c))
 
 -- the masks that are passed over are among the sets
-within : (c : Else1) → c .before .before .loop .s + 2 ^ trailingZeros 16 (c .before .before .loop .s) ≤ c .before .before .before .sets-of .result
+within : (c : Else1) →
+    let s = c .before .before .loop .s in
+    s + 2 ^ trailingZeros 16 s ≤ c .before .before .before .sets-of .result
 within c =
     let top = c .before .before in
     let sets = top .before .sets-of .ensures in
@@ -83,8 +87,8 @@ loop-less-2 c = rw (bit c) (omega (arith, c .before .loop-test .taken, pow-pos (
 loop-again-2 : tie.Need-loop-again-2 Inv-loop μ-loop
 loop-again-2 c =
     let s = c .before .before .loop .s in
-    rw (bit c) (choosing-leap (c .before .before .loop .inv) (s + 2 ^ trailingZeros 16 s) (omega arith) (within c) (few (c .before)) (λ t h l.
-    omega (arith, leap-least s t h l, c .if1 .left)))
+    rw (bit c) (choosing-leap (c .before .before .loop .inv) (s + 2 ^ trailingZeros 16 s) (omega arith) (within c) (few (c .before))
+    (λ t h l. omega (arith, leap-least s t h l, c .if1 .left)))
 
 returns : tie.Need-returns Inv-loop μ-loop
 returns c = rw (← c .before .before .sets-of .ensures) (choosing-all (c .before .loop .inv) (c .loop-test .left))

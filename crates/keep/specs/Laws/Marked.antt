@@ -30,7 +30,8 @@ module _ (enough : ℕ → Bool) (m s done : ℕ) where
   spoilt-set t h = ltb→lt t (2 ^ m) (and-left (ltb t (2 ^ m)) (disjoint t done) (spoilt-offered t h))
 
   -- some spoilt set shares nothing with k just if one lies in what k leaves
-  rest-covered : (k : ℕ) → someBelow (2 ^ m) (λ t. disjoint t k && spoilt enough m s done t) ≡ covered (spoilt enough m s done) (restOf m done k)
+  rest-covered : (k : ℕ) → someBelow (2 ^ m) (λ t. disjoint t k && spoilt enough m s done t)
+      ≡ covered (spoilt enough m s done) (restOf m done k)
   rest-covered k = same (someBelow (2 ^ m) clash) (covered (spoilt enough m s done) (restOf m done k)) there back
     where
       clash : ℕ → Bool
@@ -63,4 +64,5 @@ module _ (enough : ℕ → Bool) (m s done : ℕ) where
     -- so the search through the unmarked ones finds the mask
     pub keepOf-is : keepOf enough m s done ≡ foundOr0 (lightest (unmarked table m s done) ones (2 ^ m))
     unfolding keepOf
-    keepOf-is = ap foundOr0 (lightest-same (keepsOff enough m s done) (unmarked table m s done) ones ones (2 ^ m) (λ k l. keeps-is k) (λ k. refl))
+    keepOf-is = ap foundOr0 (lightest-same (keepsOff enough m s done) (unmarked table m s done) ones ones (2 ^ m)
+        (λ k l. keeps-is k) (λ k. refl))
