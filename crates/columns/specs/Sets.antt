@@ -6,7 +6,8 @@ use lib.Bits.{bitAnd, bitOr}
 use lib.ListN.{getD}
 use mathlib.Core.List.{List}
 use Rattle.mask.specs.Mask.{has, contains, disjoint}
-use Rattle.mask.specs.Packed.{packed, table}
+use Rattle.mask.specs.Packed.{packed}
+use Rattle.base.specs.Lists.{table}
 
 -- the i-th set
 abbrev pub setAt : ℕ → ℕ → ℕ

@@ -3,7 +3,7 @@ ghost use mathlib.Core.Path.{_≡_};
 ghost use Prim.Native.Nat.{_≤_, _<_, _^_};
 ghost use Rattle.model.specs.World.{worldIn};
 ghost use Rattle.mask.specs.Mask.{has};
-ghost use Rattle.mask.specs.Packed.{table};
+ghost use Rattle.base.specs.Lists.{table};
 ghost use Rattle.columns.specs.Sets.{columnOf, isShut, offeredOf, holdingOf, gathered, fourOf, foursOf, neededOf};
 use policy::Action;
 

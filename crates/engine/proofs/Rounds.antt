@@ -7,7 +7,7 @@ use native.Mathlib.Numerals.{add-one}
 use native.Mathlib.Omega.{arith}
 use lib.ListN.{length, take, getD, replicate}
 use lib.Seq.{take-suc}
-use Rattle.mask.specs.Laws.Tests.{is-true, is-false, passes, getD-filled}
+use Rattle.base.specs.Laws.Tests.{is-true, is-false, passes, getD-filled}
 use Rattle.policy.specs.declared.Policy.{Policy}
 use Rattle.policy.specs.Record.{ruleOf, headOf, withLevels}
 use Rattle.policy.specs.Questions.{othersInRange, listsRise}

@@ -6,7 +6,7 @@ use mathlib.Core.Logic.{_↔_, _≢_}
 use mathlib.Core.Path.{_≡_}
 use lib.Dec.{T}
 use lib.ListN.{length, getD, set, take, replicate}
-use Rattle.mask.specs.Every.{every}
+use Rattle.base.specs.Every.{every}
 use Rattle.policy.specs.declared.Policy.{Policy}
 use Rattle.policy.specs.declared.Rule.{Rule}
 use Rattle.policy.specs.Record.{listed, ruleOf, headOf, withLevels}

@@ -4,7 +4,7 @@ use mathlib.Core.Bool.{Bool, _&&_, not}
 use mathlib.Core.Option.{Option, none, some}
 use lib.Count.{ones}
 use Rattle.mask.specs.Mask.{contains, disjoint}
-use Rattle.mask.specs.Every.{someBelow}
+use Rattle.base.specs.Every.{someBelow}
 use Rattle.mask.specs.Family.{lightest}
 use Rattle.columns.specs.Sets.{isOffered}
 

@@ -5,7 +5,7 @@ use mathlib.Core.List.{List}
 use lib.Bits.{bitOr}
 use lib.Dec.{eqb}
 use Rattle.mask.specs.Mask.{disjoint}
-use Rattle.mask.specs.Every.{someBelow}
+use Rattle.base.specs.Every.{someBelow}
 use Rattle.mask.specs.Laws.Packed.{minus}
 use Rattle.policy.specs.declared.Policy.{Policy}
 use Rattle.policy.specs.Record.{ruleOf}

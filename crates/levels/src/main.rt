@@ -3,7 +3,7 @@ ghost use Prim.Native.Nat.{_≤_};
 ghost use mathlib.Core.Path.{_≡_};
 ghost use lib.ListN.{length, take};
 ghost use Rattle.levels.specs.Printed.{textOf};
-use policy::sizes::held;
+use base::smaller;
 
 // Puts the text for a file at the start of the buffer.
 fn put_found(buffer: &mut [u8], file: &[u8]) -> usize
@@ -22,7 +22,7 @@ fn put_found(buffer: &mut [u8], file: &[u8]) -> usize
         return text::refusal(buffer, 0, found.refusal);
     }
     let level = found.level;
-    let count = held(policy.decisions as usize, 128);
+    let count = smaller(policy.decisions as usize, 128);
     text::lines(buffer, 0, b"level=", &level[..count])
 }
 

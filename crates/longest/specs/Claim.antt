@@ -5,7 +5,8 @@ use mathlib.Core.Path.{_≡_}
 use lib.Count.{ones}
 use lib.ListN.{length}
 use Rattle.mask.specs.Mask.{has}
-use Rattle.mask.specs.Counted.{counted, sized}
+use Rattle.mask.specs.Mask.{sized}
+use Rattle.base.specs.Counted.{counted}
 use Rattle.policy.specs.declared.Policy.{Policy}
 use Rattle.policy.specs.declared.Query.{Query}
 use Rattle.policy.specs.Questions.{Accepted}

@@ -5,10 +5,10 @@ use crate::calls;
 use crate::out::keyed;
 use crate::out::long;
 use crate::out::text;
+use base::smaller;
 use engine::MOST_SLIM;
 use policy::Policy;
 use policy::Query;
-use policy::sizes::held;
 
 // The first mask that is no set of so many actions, or with 16 the last mask.
 pub(crate) fn past(actions: u8) -> u16 {
@@ -47,7 +47,7 @@ fn list(policy: Policy, query: Query, length: usize)
 
 // Writes the lines of the lists with at most one place more than there are slim sets.
 fn lists(policy: Policy, query: Query, slim: u32) {
-    let end = held(slim as usize + 2, 301);
+    let end = smaller(slim as usize + 2, 301);
     let mut n = 0;
     while n < end {
         list(policy, query, n);
@@ -123,7 +123,7 @@ fn choose(policy: Policy, query: Query) -> u32 {
 // one place fewer, some words, and the digest of all.
 pub(crate) fn of_many(policy: Policy, query: Query) {
     named(query);
-    let slim = held(choose(policy, query) as usize, MOST_SLIM);
+    let slim = smaller(choose(policy, query) as usize, MOST_SLIM);
     if slim != 0 {
         list(policy, query, slim - 1);
     }

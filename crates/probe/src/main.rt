@@ -1,9 +1,9 @@
 // The program `probe`: reads a file from standard input, and writes what the engine's
 // calls and the writer return for its policy and queries.
+use base::smaller;
 use out::keyed;
 use out::text;
 use policy::Policy;
-use policy::sizes::held;
 use reader::Queries;
 
 mod calls;
@@ -21,7 +21,7 @@ fn answer(policy: Policy, queries: Queries) {
     text(b"\n");
     written::lines(policy, queries);
     let query = queries.at;
-    let count = held(queries.count as usize, 64);
+    let count = smaller(queries.count as usize, 64);
     let mut i = 0;
     while i < count {
         let one = query[i];
@@ -38,7 +38,7 @@ fn answer(policy: Policy, queries: Queries) {
 // Writes the lines of a file with more than 8 actions: those of each query, and few of these.
 fn answer_many(policy: Policy, queries: Queries) {
     let query = queries.at;
-    let count = held(queries.count as usize, 64);
+    let count = smaller(queries.count as usize, 64);
     let mut i = 0;
     while i < count {
         let one = query[i];

@@ -4,13 +4,13 @@ use crate::lines::past;
 use crate::out::text;
 use crate::spoilt::own_unless;
 use crate::written::write;
+use base::smaller;
 use policy::Action;
 use policy::Decisions;
 use policy::Kind;
 use policy::Policy;
 use policy::Query;
 use policy::Rule;
-use policy::sizes::held;
 use reader::Queries;
 
 // Writes the line of a buffer of so many bytes.
@@ -28,7 +28,7 @@ fn line(name: &[u8], policy: Policy, queries: Queries, length: usize)
 fn last_place(queries: Queries) -> usize
     ensures { λ r. ⌜ r ≤ 63 ⌝ }
 {
-    let count = held(queries.count as usize, 64);
+    let count = smaller(queries.count as usize, 64);
     if count == 0 { 0 } else { count - 1 }
 }
 

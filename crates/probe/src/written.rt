@@ -4,8 +4,8 @@ ghost use mathlib.Core.Path.{_≡_};
 ghost use lib.ListN.{length};
 use crate::out::keyed;
 use crate::out::text;
+use base::smaller;
 use policy::Policy;
-use policy::sizes::held;
 use reader::Queries;
 use writer::Written;
 
@@ -37,7 +37,7 @@ fn lent(policy: Policy, queries: Queries, buffer: &mut [u8])
         Written::Length(n) => {
             keyed(b"length=", n as u32);
             text(b" bytes=");
-            let end = held(n + 3, buffer.len());
+            let end = smaller(n + 3, buffer.len());
             text(&buffer[..end]);
         }
     }

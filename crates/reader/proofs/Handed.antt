@@ -5,7 +5,7 @@ use mathlib.Core.Bool.{true}
 use mathlib.Core.List.{List}
 use lib.Dec.{leb}
 use lib.ListN.{length, drop-of-length-le}
-use Rattle.mask.specs.Laws.Tests.{passes, and-make}
+use Rattle.base.specs.Laws.Tests.{passes, and-make}
 use Rattle.policy.specs.Questions.{questions, inRange, levelsFit, weightsFit}
 use Rattle.policy.specs.Laws.{answers, firstNo-yes}
 use Rattle.engine.specs.Calls.{checkOf}

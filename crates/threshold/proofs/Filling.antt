@@ -5,11 +5,11 @@ use mathlib.Core.Path.{_≡_, refl}
 use native.Mathlib.Omega.{arith}
 use lib.Dec.{ltb, ltb→lt, lt→ltb}
 use lib.ListN.{length, set, replicate, length-append}
-use Rattle.mask.specs.Laws.Tests.{is-true, is-false}
+use Rattle.base.specs.Laws.Tests.{is-true, is-false}
 use Rattle.policy.specs.declared.Rule.{Rule}
-use Rattle.reader.specs.Format.{filled}
+use Rattle.base.specs.Lists.{filled}
 use Rattle.reader.specs.File.{zeroRule}
-use Rattle.reader.proofs.OneMore.{filled-snoc}
+use Rattle.base.specs.Laws.Lists.{filled-snoc}
 use Rattle.threshold.specs.AtLeast.{wide, without, having, firstFor, rulesFor, row, rows}
 use Rattle.threshold.proofs.Counts.{first-few, row-few, rows-few}
 

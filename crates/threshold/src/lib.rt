@@ -1,8 +1,8 @@
 // The policy whose query has the most slim sets: decision by decision, "at least j of the first i actions".
 ghost use mathlib.Core.Path.{_≡_};
 ghost use Rattle.reader.specs.File.{zeroRule};
-ghost use Rattle.reader.specs.Format.{filled};
-ghost use Rattle.threshold.specs.AtLeast.{wide, plain, rows, atLeast, stated};
+ghost use Rattle.base.specs.Lists.{filled};
+ghost use Rattle.threshold.specs.AtLeast.{plain, rows, atLeast, stated};
 use policy::Action;
 use policy::Kind;
 use policy::Policy;

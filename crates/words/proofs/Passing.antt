@@ -8,7 +8,7 @@ use native.Mathlib.Nat.{le-refl}
 use native.Mathlib.Numerals.{add-one}
 use native.Mathlib.Omega.{arith}
 use lib.ListN.{length, getD}
-use Rattle.mask.specs.Laws.Tests.{last-or-below}
+use Rattle.base.specs.Laws.Tests.{last-or-below}
 use Rattle.policy.specs.declared.Policy.{Policy}
 use Rattle.policy.specs.declared.Query.{Query}
 use Rattle.policy.specs.Questions.{Accepted}

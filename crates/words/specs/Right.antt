@@ -7,7 +7,7 @@ use mathlib.Core.Path.{_≡_}
 use lib.Dec.{T}
 use lib.ListN.{length, getD}
 use Rattle.mask.specs.Mask.{has}
-use Rattle.mask.specs.Packed.{table}
+use Rattle.base.specs.Lists.{table}
 use Rattle.policy.specs.declared.Policy.{Policy}
 use Rattle.policy.specs.declared.Query.{Query}
 use Rattle.policy.specs.Record.{ruleOf, levelOf}

@@ -2,7 +2,7 @@
 ghost use mathlib.Core.Path.{_≡_};
 ghost use Prim.Native.Nat.{ℕ, _≤_, _<_};
 ghost use lib.ListN.{getD};
-ghost use Rattle.mask.specs.Laws.Packed.{Filled};
+ghost use Rattle.base.specs.Laws.Tables.{Tabled};
 ghost use Rattle.policy.specs.declared.Query.{Query};
 ghost use Rattle.policy.specs.Record.{ruleOf};
 ghost use Rattle.policy.specs.Laws.{InRange};
@@ -59,7 +59,7 @@ fn enabling(
 ) -> [u64; 256]
     requires { ⌜ count ≤ 256 ⌝ }
     requires { ⌜ ((j : ℕ) → j < count → getD (now order) j 0 < 256) ⌝ }
-    ensures { λ r. ⌜ Filled (λ j. neededOf (now (fours .entry)) (ruleOf policy (getD (now (order .entry)) j 0) .needs) sets) 256 r count ⌝ }
+    ensures { λ r. ⌜ Tabled (λ j. neededOf (now (fours .entry)) (ruleOf policy (getD (now (order .entry)) j 0) .needs) sets) 256 r count ⌝ }
     ensures { λ r. ⌜ AreWords 256 r ⌝ }
 {
     let mut enabled = [0u64; 256];

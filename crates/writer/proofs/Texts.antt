@@ -4,7 +4,7 @@ use mathlib.Core.List.{List}
 use mathlib.Core.Path.{_≡_, ap}
 use native.Mathlib.Omega.{arith}
 use lib.ListN.{length, getD, take}
-use Rattle.mask.proofs.Every.{held-take}
+use Rattle.base.proofs.Every.{front-take}
 use Rattle.reader.specs.Written.{each}
 use Rattle.text.specs.Put.{Puts}
 use Rattle.text.specs.Laws.Putting.{nothing, same-text}
@@ -35,4 +35,4 @@ module _ {A : Type 0} {f : A → List ℕ} {xs : List A} {places end : ℕ} {bef
   pub texts-all : (count : ℕ) → end ≡ min count places → end ≤ i → Puts before at (each f (take count xs)) now last
   texts-all count e h =
       let done : i ≡ min count places = omega (arith, t .within) in
-      same-text (t .put) (ap (each f) (held-take xs count (t .long) done))
+      same-text (t .put) (ap (each f) (front-take xs count (t .long) done))

@@ -3,7 +3,7 @@ use Prim.Native.Nat.{ℕ}
 use mathlib.Core.List.{[], _∷_, _++_}
 use mathlib.Core.Path.{_≡_, refl}
 use lib.ListN.{replicate}
-use Rattle.mask.specs.Every.{every, everyBelow}
+use Rattle.base.specs.Every.{every, everyBelow}
 use Rattle.policy.specs.Cases.{sample, ask}
 use Rattle.policy.specs.Questions.{firstNo, questions, inRange, othersInRange, countsInRange, levelInRange, actionInRange}
 use Rattle.policy.specs.Questions.{ruleInRange, listInRange, listsRise, ruleRises, rises, levelsFit, ruleLevelsFit, levelsBelow}

@@ -5,7 +5,7 @@ use mathlib.Core.List.{List, [], _∷_, _++_}
 use mathlib.Core.Path.{_≡_}
 use lib.Dec.{leb}
 use lib.ListN.{length, take, drop}
-use Rattle.mask.specs.Every.{every}
+use Rattle.base.specs.Every.{every}
 use Rattle.policy.specs.declared.Policy.{Policy}
 use Rattle.policy.specs.Questions.{Question, firstNo, questions, queryInRange}
 use Rattle.engine.specs.Calls.{refusedOr}

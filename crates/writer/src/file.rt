@@ -7,13 +7,13 @@ ghost use Rattle.reader.specs.Text.{ascii};
 ghost use Rattle.reader.specs.Written.{lineOf, commas, letterOf, each};
 ghost use Rattle.reader.specs.Written.{actionText, ruleText, queryText, entriesText, fileOf};
 ghost use Rattle.text.specs.Put.{Puts};
+use base::smaller;
 use policy::Action;
 use policy::Decisions;
 use policy::Kind;
 use policy::Policy;
 use policy::Query;
 use policy::Rule;
-use policy::sizes::held;
 use reader::Queries;
 
 // Puts the line of a kind.
@@ -40,7 +40,7 @@ fn put_action(buffer: &mut [u8], at: usize, action: Action) -> usize
 fn put_actions(buffer: &mut [u8], at: usize, action: [Action; 16], count: u8) -> usize
     ensures { λ r. ⌜ Puts (now (buffer .entry)) at (each actionText (take count action)) (now (buffer .exit)) r ⌝ }
 {
-    let count = held(count as usize, 16);
+    let count = smaller(count as usize, 16);
     let mut end = at;
     let mut i = 0;
     while i < count {
@@ -57,7 +57,7 @@ fn put_list(buffer: &mut [u8], at: usize, key: &[u8], list: Decisions) -> usize
         (now (key .entry) ++ (commas (listed list) ++ ascii "\n")) (now (buffer .exit)) r ⌝ }
 {
     let decisions = list.at;
-    let count = held(list.count as usize, 8);
+    let count = smaller(list.count as usize, 8);
     text::list(buffer, at, key, &decisions[..count])
 }
 
@@ -77,7 +77,7 @@ fn put_rule(buffer: &mut [u8], at: usize, rule: Rule) -> usize
 fn put_rules(buffer: &mut [u8], at: usize, rule: [Rule; 256], count: u16) -> usize
     ensures { λ r. ⌜ Puts (now (buffer .entry)) at (each ruleText (take count rule)) (now (buffer .exit)) r ⌝ }
 {
-    let count = held(count as usize, 256);
+    let count = smaller(count as usize, 256);
     let mut end = at;
     let mut k = 0;
     while k < count {
@@ -100,7 +100,7 @@ fn put_query(buffer: &mut [u8], at: usize, query: Query) -> usize
 fn put_queries(buffer: &mut [u8], at: usize, query: [Query; 64], count: u8) -> usize
     ensures { λ r. ⌜ Puts (now (buffer .entry)) at (each queryText (take count query)) (now (buffer .exit)) r ⌝ }
 {
-    let count = held(count as usize, 64);
+    let count = smaller(count as usize, 64);
     let mut end = at;
     let mut i = 0;
     while i < count {
@@ -118,7 +118,7 @@ fn put_entries(buffer: &mut [u8], at: usize, policy: Policy) -> usize
     let level = policy.level;
     let action = policy.action;
     let rule = policy.rule;
-    let decisions = held(policy.decisions as usize, 128);
+    let decisions = smaller(policy.decisions as usize, 128);
     let at = text::lines(buffer, at, b"level=", &level[..decisions]);
     let at = put_actions(buffer, at, action, policy.actions);
     let at = text::line(buffer, at, b"rules=", policy.rules as u32);

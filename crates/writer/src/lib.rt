@@ -3,7 +3,7 @@ ghost use mathlib.Core.Bool.{_&&_};
 ghost use mathlib.Core.Path.{_≡_};
 ghost use lib.Dec.{leb};
 ghost use lib.ListN.{length, take};
-ghost use Rattle.mask.specs.Every.{every};
+ghost use Rattle.base.specs.Every.{every};
 ghost use Rattle.policy.specs.Questions.{isDecision, isMask};
 ghost use Rattle.writer.specs.Writing.{writeOf, writeAfter, Writes};
 use policy::Policy;

@@ -17,7 +17,7 @@ use Rattle.engine.specs.Laws.Few.{few-slim, fire-places}
 use Rattle.engine.specs.Laws.Refusals.{refused}
 use Rattle.reader.specs.Text.{decimal}
 use Rattle.reader.specs.Written.{commas}
-use Rattle.reader.specs.Laws.All.{All}
+use Rattle.base.specs.Laws.All.{All}
 use Rattle.reader.specs.Laws.Lengths.{decimal-length, ten-digits, commas-length, line-length}
 use Rattle.text.specs.Put.{refusedText}
 use Rattle.clear.specs.Printed.{answerText, setsListed, rulesFired, textOf}

@@ -5,20 +5,20 @@ use mathlib.Core.Path.{ap, _∙_}
 use native.Mathlib.Omega.{arith}
 use borrow.Author.Needs.{needs}
 use lib.ListN.{length-replicate}
-use Rattle.mask.specs.Laws.Packed.{Filled}
-use Rattle.mask.proofs.Filling.{filled-none, filled-more, filled-all}
+use Rattle.base.specs.Laws.Tables.{Tabled}
+use Rattle.base.proofs.Tabling.{tabled-none, tabled-more, tabled-all}
 use Rattle.columns.specs.Sets.{fourOf, foursOf}
 use Rattle.columns.proofs.fours.Statement.{statement}
 use Rattle.columns.proofs.fours.Tie as tie
 
 abbrev Inv-loop : tie.InvT-loop
-Inv-loop base leads w world fours₀ n₀ fours n = Filled (λ k. fourOf world (k / 16) (k % 16)) 64 fours n
+Inv-loop base leads w world fours₀ n₀ fours n = Tabled (λ k. fourOf world (k / 16) (k % 16)) 64 fours n
 
 abbrev μ-loop : tie.MeasureT-loop
 μ-loop base leads w world fours₀ n₀ fours n = 64 - n
 
 loop-holds : tie.Need-loop-holds Inv-loop μ-loop
-loop-holds c = filled-none (length-replicate {A = ℕ} 64 0)
+loop-holds c = tabled-none (length-replicate {A = ℕ} 64 0)
 
 cast-four : tie.Need-cast-four Inv-loop μ-loop
 cast-four c = omega arith
@@ -31,12 +31,12 @@ array-write-fours c = omega (arith, c .before .before .loop-test .taken)
 
 loop-again : tie.Need-loop-again Inv-loop μ-loop
 loop-again c =
-    filled-more (c .before .before .before .loop .inv) (omega (arith, c .before .before .loop-test .taken)) (c .four .ensures)
+    tabled-more (c .before .before .before .loop .inv) (omega (arith, c .before .before .loop-test .taken)) (c .four .ensures)
 
 returns : tie.Need-returns Inv-loop μ-loop
 unfolding foursOf
 returns c =
-    filled-all (c .before .loop .inv) (omega (arith, c .loop-test .left)) ∙ ap (λ (x : List ℕ). foursOf x)
+    tabled-all (c .before .loop .inv) (omega (arith, c .loop-test .left)) ∙ ap (λ (x : List ℕ). foursOf x)
     (c .before .before .worlds .ensures)
 
 pub fours-spec : {M : Type 1} → statement M

@@ -4,28 +4,28 @@ use native.Mathlib.Omega.{arith}
 use borrow.Author.Needs.{needs}
 use lib.ListN.{length-replicate}
 use Rattle.columns.specs.Sets.{gathered}
-use Rattle.mask.specs.Laws.Packed.{Filled}
-use Rattle.mask.proofs.Filling.{filled-none, filled-more, filled-all}
+use Rattle.base.specs.Laws.Tables.{Tabled}
+use Rattle.base.proofs.Tabling.{tabled-none, tabled-more, tabled-all}
 use Rattle.columns.proofs.worlds.Statement.{statement}
 use Rattle.columns.proofs.worlds.Tie as tie
 
 abbrev Inv-loop : tie.InvT-loop
-Inv-loop base leads w world₀ b₀ world b = Filled (gathered base leads w) 16 world b
+Inv-loop base leads w world₀ b₀ world b = Tabled (gathered base leads w) 16 world b
 
 abbrev μ-loop : tie.MeasureT-loop
 μ-loop base leads w world₀ b₀ world b = 16 - b
 
 loop-holds : tie.Need-loop-holds Inv-loop μ-loop
-loop-holds c = filled-none (length-replicate {A = ℕ} 16 0)
+loop-holds c = tabled-none (length-replicate {A = ℕ} 16 0)
 
 array-write-world : tie.Need-array-write-world Inv-loop μ-loop
 array-write-world c = omega arith
 
 loop-again : tie.Need-loop-again Inv-loop μ-loop
-loop-again c = filled-more (c .before .before .loop .inv) (omega arith) (c .world-of .ensures)
+loop-again c = tabled-more (c .before .before .loop .inv) (omega arith) (c .world-of .ensures)
 
 returns : tie.Need-returns Inv-loop μ-loop
-returns c = filled-all (c .before .loop .inv) (omega (arith, c .loop-test .left))
+returns c = tabled-all (c .before .loop .inv) (omega (arith, c .loop-test .left))
 
 pub worlds-spec : {M : Type 1} → statement M
 worlds-spec =

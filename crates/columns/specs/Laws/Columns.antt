@@ -9,9 +9,9 @@ use lib.Dec.{T, eqb, eqb→eq}
 use lib.ListN.{getD}
 use lib.Pow.{shr-shr, high}
 use Rattle.mask.specs.Mask.{has}
-use Rattle.mask.specs.Every.{everyBelow}
+use Rattle.base.specs.Every.{everyBelow}
 use Rattle.mask.specs.Laws.{has-low, has-high}
-use Rattle.mask.specs.Laws.Tests.{everyBelow-at}
+use Rattle.base.specs.Laws.Tests.{everyBelow-at}
 use Rattle.mask.specs.Laws.Packed.{packed-same}
 use Rattle.mask.specs.Packed.{packed}
 use Rattle.columns.specs.Sets.{allSets, columnOf}

@@ -11,11 +11,11 @@ use lib.Bits.{bitOr}
 use lib.Dec.{T}
 use lib.ListN.{getD}
 use Rattle.mask.specs.Mask.{has}
-use Rattle.mask.specs.Every.{someBelow}
+use Rattle.base.specs.Every.{someBelow}
 use Rattle.mask.specs.Family.{minimal}
 use Rattle.mask.specs.Laws.{has-or}
 use Rattle.mask.specs.Laws.Packed.{has-minus}
-use Rattle.mask.specs.Laws.Tests.{same, and-right, and-same, or-left, or-right, or-cases, someBelow-at, someBelow-make, someBelow-same}
+use Rattle.base.specs.Laws.Tests.{same, and-right, and-same, or-left, or-right, or-cases, someBelow-at, someBelow-make, someBelow-same}
 use Rattle.mask.specs.Laws.Minimal.{covered, coveredLess, minimal-step}
 use Rattle.columns.specs.Sets.{setAt}
 use Rattle.columns.specs.Laws.Columns.{low-action, set-small}

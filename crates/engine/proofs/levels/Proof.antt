@@ -1,7 +1,7 @@
 -- `levels` is refused by question 3 or 4, or finds the lowest levels.
 use mathlib.Core.Path.{sym, _∙_}
 use borrow.Author.Needs.{needs}
-use Rattle.mask.proofs.Tested.{tested-no, tested-yes}
+use Rattle.base.proofs.Tested.{tested-no, tested-yes}
 use Rattle.engine.specs.Laws.Levels.{found-three, found-four}
 use Rattle.engine.proofs.Answers.{levels-found}
 use Rattle.engine.proofs.levels.Statement.{statement}

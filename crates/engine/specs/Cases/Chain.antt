@@ -5,7 +5,7 @@ use mathlib.Core.Logic.{inr}
 use mathlib.Core.Option.{some}
 use mathlib.Core.Path.{_≡_, refl}
 use lib.Dec.{lit<}
-use Rattle.mask.specs.Every.{every, everyBelow, someBelow}
+use Rattle.base.specs.Every.{every, everyBelow, someBelow}
 use Rattle.mask.specs.Laws.{disjoint-iff}
 use Rattle.policy.specs.Questions.{firstNo, questions, queryInRange, inRange, othersInRange, countsInRange, levelInRange}
 use Rattle.policy.specs.Questions.{actionInRange, ruleInRange, listInRange, listsRise, ruleRises, rises, levelsFit, ruleLevelsFit}

@@ -2,7 +2,7 @@
 use Prim.Native.Nat.{ℕ, _^_, _<_}
 use mathlib.Core.Bool.{true, false}
 use mathlib.Core.Path.{_≡_}
-use Rattle.mask.specs.Laws.Tests.{passes}
+use Rattle.base.specs.Laws.Tests.{passes}
 use Rattle.policy.specs.declared.Policy.{Policy}
 use Rattle.policy.specs.Questions.{Accepted}
 use Rattle.policy.specs.Cases.{ask}

@@ -2,7 +2,7 @@
 use mathlib.Core.Bool.{true}
 use mathlib.Core.Path.{_≡_, refl}
 use lib.Dec.{lit<}
-use Rattle.mask.specs.Every.{every, everyBelow}
+use Rattle.base.specs.Every.{every, everyBelow}
 use Rattle.mask.specs.Laws.{disjoint-iff}
 use Rattle.policy.specs.Questions.{firstNo, questions, queryInRange, inRange, othersInRange, countsInRange, levelInRange}
 use Rattle.policy.specs.Questions.{actionInRange, ruleInRange, listInRange, listsRise, ruleRises, rises, levelsFit, ruleLevelsFit}

@@ -2,7 +2,7 @@
 use mathlib.Core.List.{[], _∷_}
 use mathlib.Core.Path.{_≡_, refl}
 use lib.ListN.{replicate}
-use Rattle.mask.specs.Every.{every}
+use Rattle.base.specs.Every.{every}
 use Rattle.policy.specs.Questions.{firstNo, othersInRange, countsInRange, levelInRange, actionInRange, ruleInRange, listInRange}
 use Rattle.policy.specs.Questions.{listsRise, ruleRises, rises, levelsFit, ruleLevelsFit, levelsBelow}
 use Rattle.policy.specs.declared.Policy.{Policy}

@@ -2,8 +2,9 @@
 use mathlib.Core.List.{_∷_}
 use mathlib.Core.Path.{_≡_, refl}
 use lib.ListN.{replicate}
-use Rattle.mask.specs.Every.{every, everyBelow, someBelow}
-use Rattle.mask.specs.Packed.{packed, table}
+use Rattle.base.specs.Every.{every, everyBelow, someBelow}
+use Rattle.mask.specs.Packed.{packed}
+use Rattle.base.specs.Lists.{table}
 use Rattle.policy.specs.Questions.{firstNo, questions, queryInRange, inRange, othersInRange, countsInRange, levelInRange}
 use Rattle.policy.specs.Questions.{actionInRange, ruleInRange, listInRange, listsRise, ruleRises, rises, levelsFit, ruleLevelsFit}
 use Rattle.policy.specs.Questions.{levelsBelow, weightsFit, outweighs, heavier}

@@ -7,7 +7,7 @@ use lib.ListN.{length}
 use Rattle.mask.specs.Mask.{contains}
 use Rattle.mask.specs.Family.{among, takenWithin, minimal, lightest}
 use Rattle.mask.specs.Laws.Lightest.{lightest-same}
-use Rattle.mask.specs.Laws.Tests.{someBelow-same}
+use Rattle.base.specs.Laws.Tests.{someBelow-same}
 use Rattle.policy.specs.declared.Policy.{Policy}
 use Rattle.policy.specs.declared.Query.{Query}
 use Rattle.keep.specs.Keep.{keepOf}

@@ -6,7 +6,8 @@ use mathlib.Core.Path.{_≡_, refl, sym, _∙_}
 use native.Mathlib.Decide.{ℕ-discrete}
 use native.Mathlib.Omega.{arith}
 use lib.ListN.{length, replicate, length-append, length-replicate}
-use Rattle.mask.specs.Counted.{counted, sized}
+use Rattle.mask.specs.Mask.{sized}
+use Rattle.base.specs.Counted.{counted}
 use Rattle.mask.specs.Laws.Sperner.{Antichain, sperner, middle-few}
 use Rattle.policy.specs.declared.Policy.{Policy}
 use Rattle.policy.specs.declared.Query.{Query}

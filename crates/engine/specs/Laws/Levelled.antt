@@ -5,7 +5,7 @@ use mathlib.Core.List.{List}
 use mathlib.Core.Logic.{_↔_}
 use mathlib.Core.Path.{_≡_, refl, ap}
 use lib.Dec.{T, leb}
-use Rattle.mask.specs.Laws.Tests.{same, is-true, parts}
+use Rattle.base.specs.Laws.Tests.{same, is-true, parts}
 use Rattle.policy.specs.declared.Policy.{Policy}
 use Rattle.policy.specs.declared.Query.{Query}
 use Rattle.policy.specs.Record.{withLevels}

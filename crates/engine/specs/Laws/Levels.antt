@@ -9,7 +9,7 @@ use native.Mathlib.Omega.{arith}
 use lib.Dec.{T, le→leb}
 use lib.ListN.{getD, replicate}
 use lib.Seq.{ext-getD}
-use Rattle.mask.specs.Laws.Tests.{is-true, passes, not-both, choice, getD-filled, entries-make}
+use Rattle.base.specs.Laws.Tests.{is-true, passes, not-both, choice, getD-filled, entries-make}
 use Rattle.policy.specs.declared.Policy.{Policy}
 use Rattle.policy.specs.Record.{noRule, withLevels}
 use Rattle.policy.specs.Questions.{firstNo, levelInRange, ruleLevelsFit, othersInRange, listsRise, levelsFit, weightsFit, questions}

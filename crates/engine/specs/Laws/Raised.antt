@@ -10,7 +10,7 @@ use native.Mathlib.Omega.{arith}
 use lib.Dec.{T, ltb, lt→ltb}
 use lib.ListN.{length, getD, set, replicate, length-set, length-replicate}
 use lib.Seq.{getD-set-same, getD-set-other, set-getD}
-use Rattle.mask.specs.Laws.Tests.{and-make, every-make, getD-filled, last-or-below}
+use Rattle.base.specs.Laws.Tests.{and-make, every-make, getD-filled, last-or-below}
 use Rattle.policy.specs.declared.Policy.{Policy}
 use Rattle.policy.specs.declared.Rule.{Rule}
 use Rattle.policy.specs.Record.{listed, ruleOf, headOf, withLevels}

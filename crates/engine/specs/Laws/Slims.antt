@@ -11,7 +11,7 @@ use Rattle.mask.specs.Mask.{has, contains}
 use Rattle.mask.specs.Family.{among, takenWithin, minimal, lightest}
 use Rattle.mask.specs.Laws.{has-none}
 use Rattle.mask.specs.Laws.Packed.{packed-bit}
-use Rattle.mask.specs.Laws.Tests.{is-false, passes, someBelow-same}
+use Rattle.base.specs.Laws.Tests.{is-false, passes, someBelow-same}
 use Rattle.mask.specs.Laws.Lightest.{lightest-idle, lightest-same}
 use Rattle.policy.specs.declared.Policy.{Policy}
 use Rattle.policy.specs.declared.Query.{Query}

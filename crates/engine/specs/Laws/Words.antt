@@ -9,8 +9,9 @@ use lib.Dec.{T, ltb, leb, lt→ltb, ltb→lt, leb→le}
 use lib.ListN.{getD, replicate, length-replicate, List·getD-eq-default}
 use Rattle.mask.specs.Mask.{has, disjoint}
 use Rattle.mask.specs.Laws.{disjoint-iff, has-none}
-use Rattle.mask.specs.Laws.Packed.{packed-bit, packed-same, table-length}
-use Rattle.mask.specs.Laws.Tests.{is-true, is-false, and-make, and-left, and-right, getD-filled}
+use Rattle.mask.specs.Laws.Packed.{packed-bit, packed-same}
+use Rattle.base.specs.Laws.Tables.{table-length}
+use Rattle.base.specs.Laws.Tests.{is-true, is-false, and-make, and-left, and-right, getD-filled}
 use Rattle.policy.specs.declared.Policy.{Policy}
 use Rattle.policy.specs.declared.Query.{Query}
 use Rattle.policy.specs.Questions.{firstNo, questions, queryInRange, queryQuestions, isDecision, isMask, Accepted}

@@ -8,8 +8,8 @@ use native.Mathlib.Omega.{arith}
 use borrow.Author.Needs.{needs}
 use borrow.Author.Tests.{eq-eqb, ne-eqb}
 use lib.Dec.{eqb}
-use Rattle.mask.specs.Every.{someBelow}
-use Rattle.mask.specs.Laws.Tests.{is-true, passes, someBelow-make}
+use Rattle.base.specs.Every.{someBelow}
+use Rattle.base.specs.Laws.Tests.{is-true, passes, someBelow-make}
 use Rattle.policy.specs.declared.Policy.{Policy}
 use Rattle.policy.specs.Record.{ruleOf}
 use Rattle.keep.specs.Search.{someUnless}

@@ -5,7 +5,7 @@ use borrow.Author.Needs.{needs}
 use lib.Pow.{pow-mono, pow-pos}
 use Rattle.mask.specs.Mask.{has, disjoint}
 use Rattle.mask.specs.Laws.Packed.{minus}
-use Rattle.mask.proofs.Tested.{tested-no, tested-yes}
+use Rattle.base.proofs.Tested.{tested-no, tested-yes}
 use Rattle.covers.specs.Covers.{markedIn}
 use Rattle.keep.specs.Search.{restOf, unmarked}
 use Rattle.keep.specs.Laws.Rest.{rest-set}

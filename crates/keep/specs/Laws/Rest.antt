@@ -9,7 +9,7 @@ use lib.Pow.{ones-lt}
 use Rattle.mask.specs.Mask.{has, _⊆_, Apart, disjoint}
 use Rattle.mask.specs.Laws.{has-or, has→<, ⊆→<, disjoint-iff, all-has}
 use Rattle.mask.specs.Laws.Packed.{has-minus}
-use Rattle.mask.specs.Laws.Tests.{same, and-make, and-left, and-right, or-left, or-right, or-cases}
+use Rattle.base.specs.Laws.Tests.{same, and-make, and-left, and-right, or-left, or-right, or-cases}
 use Rattle.keep.specs.Search.{restOf}
 
 module _ (m done k : ℕ) where

@@ -7,7 +7,7 @@ use lib.Dec.{T, ltb, ltb→lt}
 use Rattle.mask.specs.Mask.{has, contains, disjoint}
 use Rattle.mask.specs.Laws.{has-and, has-none}
 use Rattle.mask.specs.Laws.Packed.{minus, has-minus, packed-bit}
-use Rattle.mask.specs.Laws.Tests.{and-make, and-left, and-right}
+use Rattle.base.specs.Laws.Tests.{and-make, and-left, and-right}
 use Rattle.policy.specs.declared.Policy.{Policy}
 use Rattle.policy.specs.declared.Query.{Query}
 use Rattle.policy.specs.Questions.{Accepted}

@@ -2,7 +2,7 @@
 use mathlib.Core.Path.{_≡_, _∙_, ap}
 use borrow.Author.Needs.{needs}
 use lib.ListN.{length}
-use Rattle.mask.proofs.Every.{held-within, held-length, held-take}
+use Rattle.base.proofs.Every.{front-within, front-length, front-take}
 use Rattle.reader.specs.Written.{lineOf, each, levelText}
 use Rattle.text.specs.Laws.Putting.{same-text, whole}
 use Rattle.levels.specs.Laws.Fits.{text-fits}
@@ -31,26 +31,26 @@ long c = search needs
 
 array-share-prefix-level : tie.Need-array-share-prefix-level
 array-share-prefix-level c =
-    let held = c .before .before in
-    let found = held .before .before .before .before .before in
-    held-within (found .levels .result .level) _ (long found) (held .held .ensures)
+    let count = c .before .before in
+    let found = count .before .before .before .before .before in
+    front-within (found .levels .result .level) _ (long found) (count .smaller .ensures)
 
 slice-aggregate-lines-2 : tie.Need-slice-aggregate-lines-2
 slice-aggregate-lines-2 c =
-    let held = c .before .before .before in
-    let found = held .before .before .before .before .before in
-    held-length (found .levels .result .level) _ (long found) (held .held .ensures)
+    let count = c .before .before .before in
+    let found = count .before .before .before .before .before in
+    front-length (found .levels .result .level) _ (long found) (count .smaller .ensures)
 
 returns-3 : tie.Need-returns-3
 unfolding levelText lineOf
 returns-3 c =
-    let held = c .before .before .before .before .before .before in
-    let found = held .before .before .before .before .before in
+    let count = c .before .before .before .before .before .before in
+    let found = count .before .before .before .before .before in
     let draft = found .before .before .before .before in
-    let all = held-take (found .levels .result .level) _ (long found) (held .held .ensures) in
+    let all = front-take (found .levels .result .level) _ (long found) (count .smaller .ensures) in
     whole 4096 (draft .before .before .before .pre) (text-fits _)
     (same-text (c .before .before .lines .ensures) (ap (each levelText) all ∙ levels-found _ (draft .draft .ensures)
-    (found .before .before .if1 .left) (found .levels .ensures .0) (held .before .before .before .if2 .left)))
+    (found .before .before .if1 .left) (found .levels .ensures .0) (count .before .before .before .if2 .left)))
 
 pub put-found-spec : {M : Type 1} → statement M
 put-found-spec =

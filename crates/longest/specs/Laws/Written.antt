@@ -5,8 +5,8 @@ use mathlib.Core.Path.{_≡_, refl, _∙_}
 use native.Mathlib.Omega.{arith}
 use lib.Dec.{T, eqb, eqb→eq}
 use lib.ListN.{length, take}
-use Rattle.mask.specs.Every.{every}
-use Rattle.mask.specs.Laws.Tests.{and-make, and-left, and-right, entry-at}
+use Rattle.base.specs.Every.{every}
+use Rattle.base.specs.Laws.Tests.{and-make, and-left, and-right, entry-at}
 use Rattle.policy.specs.declared.Rule.{Rule}
 use Rattle.policy.specs.Questions.{queryInRange}
 use Rattle.policy.specs.Laws.{Answers, firstNo-zero, answered-with, accepted as query-accepted}
@@ -14,7 +14,8 @@ use Rattle.policy.specs.Record.{noRule, ruleOf, Eights, Sized}
 use Rattle.engine.specs.Meaning.{AllYes}
 use Rattle.reader.specs.Cleared.{cleared, clearedRule, clearedReading}
 use Rattle.reader.specs.File.{zeroRule, recordOf, readingOf, readOf}
-use Rattle.reader.specs.Format.{decisionsOf, filled}
+use Rattle.reader.specs.Format.{decisionsOf}
+use Rattle.base.specs.Lists.{filled}
 use Rattle.writer.specs.Claim.{AcceptedRecord}
 use Rattle.writer.specs.Writing.{queriesInRange, recordQuestions, writeQuestions}
 use Rattle.writer.specs.Laws.Room.{room}

@@ -9,7 +9,7 @@ use lib.Count.{ones, onesIn, ones-step, ones-cat, ones-le}
 use lib.Dec.{eqb}
 use lib.Pow.{pow-pos, mod-pow-add}
 use Rattle.mask.specs.Mask.{has, _⊆_}
-use Rattle.mask.specs.Counted.{counted}
+use Rattle.base.specs.Counted.{counted}
 use Rattle.mask.specs.Laws.{digit, low-le, ⊆-half, ⊆-self, ⊆-join, below-pow}
 
 -- those of the first i actions that a set has are the ones among its lowest i digits

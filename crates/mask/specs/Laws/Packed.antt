@@ -10,7 +10,8 @@ use lib.Dec.{T, eqb, lit<}
 use lib.ListN.{length, getD}
 use lib.Seq.{ext-getD}
 use Rattle.mask.specs.Mask.{has}
-use Rattle.mask.specs.Packed.{packed, table}
+use Rattle.mask.specs.Packed.{packed}
+use Rattle.base.specs.Lists.{table}
 use Rattle.mask.specs.Laws.{digit, has-low, has-high, has-and, has→<, ⊆-antisym}
 
 -- the members of a that are not in b
@@ -77,25 +78,3 @@ packed-only n x f s e = same-bits n x (packed n f) s (packed-lt n f) (λ i h. e 
 
 pub packed-same : (n : ℕ) (f g : ℕ → Bool) → ((i : ℕ) → i < n → f i ≡ g i) → packed n f ≡ packed n g
 packed-same n f g e = packed-only n (packed n f) g (packed-lt n f) (λ i h. packed-bit n f i h ∙ e i h)
-
--- ---- lists
--- a list of n entries, of which those below i are those of f
-pub record Filled (f : ℕ → ℕ) (n : ℕ) (l : List ℕ) (i : ℕ) : Type 0 where
-  pub size : length l ≡ n
-  pub within : i ≤ n
-  pub entries : (j : ℕ) → j < i → getD l j 0 ≡ f j
-
-pub table-length : (n : ℕ) (f : ℕ → ℕ) → length (table n f) ≡ n
-unfolding table
-table-length zero f = refl
-table-length (suc n) f = ap suc (table-length n (λ i. f (suc i)))
-
-pub table-at : (n : ℕ) (f : ℕ → ℕ) (i d : ℕ) → i < n → getD (table n f) i d ≡ f i
-unfolding table
-table-at zero f i d h = absurd (omega arith)
-table-at (suc n) f zero d h = refl
-table-at (suc n) f (suc i) d h = table-at n (λ j. f (suc j)) i d (omega arith)
-
-pub table-only : (n : ℕ) (f : ℕ → ℕ) (l : List ℕ) → length l ≡ n → ((i : ℕ) → i < n → getD l i 0 ≡ f i) → l ≡ table n f
-table-only n f l s e = ext-getD 0 l (table n f) (s ∙ sym (table-length n f))
-    (λ i h. e i (omega arith) ∙ sym (table-at n f i 0 (omega arith)))

@@ -26,7 +26,7 @@ loop-again c =
 returns : tie.Need-returns Inv-loop μ-loop
 returns c =
     let top = c .before in
-    gathered-all (top .loop .inv) 16 _ (search needs) (top .before .held .ensures) (c .loop-test .left)
+    gathered-all (top .loop .inv) 16 _ (search needs) (top .before .smaller .ensures) (c .loop-test .left)
 
 pub alsoes-spec : {M : Type 1} → statement M
 alsoes-spec =

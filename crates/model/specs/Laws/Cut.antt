@@ -6,7 +6,7 @@ use native.Mathlib.Omega.{arith}
 use lib.Bits.{bitOr}
 use lib.Dec.{T, eqb}
 use lib.ListN.{length}
-use Rattle.mask.specs.Laws.Tests.{choice}
+use Rattle.base.specs.Laws.Tests.{choice}
 use Rattle.policy.specs.declared.Policy.{Policy}
 use Rattle.policy.specs.declared.Rule.{Rule}
 use Rattle.policy.specs.Record.{ruleOf, headOf, levelOf, cutRule, cut}

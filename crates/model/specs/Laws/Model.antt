@@ -7,7 +7,7 @@ use mathlib.Core.Path.{_≡_, refl, subst}
 use native.Mathlib.Nat.{eq-or-lt-of-le, le-refl, le-of-eq}
 use native.Mathlib.Omega.{arith}
 use lib.ListN.{getD, List·getD-eq-default}
-use Rattle.mask.specs.Laws.Tests.{untrue, last-or-below}
+use Rattle.base.specs.Laws.Tests.{untrue, last-or-below}
 use Rattle.policy.specs.declared.Policy.{Policy}
 use Rattle.policy.specs.declared.Query.{Query}
 use Rattle.policy.specs.Questions.{Accepted}
@@ -16,7 +16,7 @@ use Rattle.model.specs.Derivation.{Steps, Derivation, Derivable}
 use Rattle.model.specs.Fire.{State, holds, upTo}
 use Rattle.model.specs.Model.{Applies, Model, IsModel}
 use Rattle.model.specs.Laws.Strata.{Stratified, stratified}
-use Rattle.model.specs.Laws.Each.{Each, each-nil, each-cons}
+use Rattle.base.specs.Laws.All.{All, all-nil, all-cons}
 use Rattle.model.specs.Laws.Derived.{unfolds}
 use Rattle.model.specs.Laws.Invariant.{Good, lower-held}
 use Rattle.model.specs.Laws.Levels.{good-upTo}
@@ -50,9 +50,9 @@ module _ (p : Policy) (w : ℕ) (s : Stratified p) where
       abbrev In : ℕ → Type 0
       In d = (getD f d 0 ≤ n → X d) × Derivable p w d
 
-      heads-in : (seen ks : List ℕ) → Each In seen → Steps p w (Derivable p w) seen ks → Each (λ k. In (headOf p k)) ks
-      heads-in seen [] hs ts = each-nil _
-      heads-in seen (k ∷ ks) hs ts = each-cons here (heads-in (headOf p k ∷ seen) ks (each-cons here hs) (ts .1))
+      heads-in : (seen ks : List ℕ) → All In seen → Steps p w (Derivable p w) seen ks → All (λ k. In (headOf p k)) ks
+      heads-in seen [] hs ts = all-nil _
+      heads-in seen (k ∷ ks) hs ts = all-cons here (heads-in (headOf p k ∷ seen) ks (all-cons here hs) (ts .1))
         where
           derived : Derivable p w (headOf p k)
           derived = derivable-closed k (record {
@@ -79,7 +79,7 @@ module _ (p : Policy) (w : ℕ) (s : Stratified p) where
       derivable-least d e t = go (unfolds p w s d .0 t)
         where
           go : (before : List ℕ) × (last : ℕ) × Derivation p w (Derivable p w) d before last → X d
-          go (before, last, v) = subst In (v .ends) (heads-in [] (before ++ (last ∷ [])) (each-nil _)
+          go (before, last, v) = subst In (v .ends) (heads-in [] (before ++ (last ∷ [])) (all-nil _)
               (v .steps) last (Memᴰ·append-right before (List·Memᴰ·head refl))) .0 (le-of-eq e)
 
     derivable-model : Model (withLevels p f) w (Derivable p w)

@@ -8,7 +8,7 @@ use lib.Bits.{bitOr}
 use lib.Dec.{T}
 use Rattle.mask.specs.Mask.{has}
 use Rattle.mask.specs.Laws.{has-or, has-none}
-use Rattle.mask.specs.Laws.Tests.{or-left, or-right, or-cases, below-suc, last-or-below}
+use Rattle.base.specs.Laws.Tests.{or-left, or-right, or-cases, below-suc, last-or-below}
 use Rattle.policy.specs.declared.Policy.{Policy}
 use Rattle.policy.specs.declared.Query.{Query}
 use Rattle.policy.specs.declared.Rule.{Rule}

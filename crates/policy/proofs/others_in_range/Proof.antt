@@ -1,7 +1,7 @@
 -- `others_in_range` meets its contract: each part is tested where those before it are in range.
 use mathlib.Core.Path.{sym, _∙_}
 use borrow.Author.Needs.{needs}
-use Rattle.mask.proofs.Tested.{tested-no, tested-yes}
+use Rattle.base.proofs.Tested.{tested-no, tested-yes}
 use Rattle.policy.specs.Questions.{othersInRange}
 use Rattle.policy.proofs.others_in_range.Statement.{statement}
 use Rattle.policy.proofs.others_in_range.Tie as tie

@@ -1,14 +1,15 @@
 -- The questions look at no entry past a count: of a record and of the record without such entries they are answered alike.
-use Prim.Native.Nat.{ℕ, zero, suc, _<_}
+use Prim.Native.Nat.{ℕ, _<_}
 use mathlib.Core.Bool.{Bool, true, false, _&&_}
-use mathlib.Core.List.{List, [], _∷_, _++_, map, List·Memᴰ}
+use mathlib.Core.List.{List, _∷_, _++_, map, List·Memᴰ}
 use mathlib.Core.Path.{_≡_, refl, _∙_, ap}
 use native.Mathlib.Nat.{le-refl}
 use lib.Dec.{T, ltb}
 use lib.ListN.{getD, take, List·getD-map}
 use lib.Seq.{take-take, getD-take}
-use Rattle.mask.specs.Every.{every}
-use Rattle.mask.specs.Laws.Tests.{everyBelow-same, every-same, every-map, every-at, parts, and-left}
+use Rattle.base.specs.Every.{every}
+use Rattle.base.specs.Laws.Lists.{take-map}
+use Rattle.base.specs.Laws.Tests.{everyBelow-same, every-same, every-map, every-at, parts, and-left}
 use Rattle.policy.specs.declared.Policy.{Policy}
 use Rattle.policy.specs.declared.Action.{Action}
 use Rattle.policy.specs.declared.Rule.{Rule}
@@ -18,12 +19,6 @@ use Rattle.policy.specs.Record.{alsoOf, weightOf, cutList, cutRule, cut,
 use Rattle.policy.specs.Questions.{Question, firstNo, questions, listInRange, ruleInRange, ruleRises, levelsBelow, ruleLevelsFit}
 use Rattle.policy.specs.Questions.{heavier, outweighs, othersInRange, inRange, listsRise, levelsFit, weightsFit}
 use Rattle.policy.specs.Laws.{ListFits, RuleFits, rule-fits}
-
--- the front of a mapped list
-take-map : {A B : Type 0} (h : A → B) (n : ℕ) (l : List A) → take n (map h l) ≡ map h (take n l)
-take-map h zero l = refl
-take-map h (suc n) [] = refl
-take-map h (suc n) (x ∷ l) = rw (take-map h n l)
 
 -- the entries below a count are those of the cut list
 pub listed-cut : (l : Decisions) → listed (cutList l) ≡ listed l

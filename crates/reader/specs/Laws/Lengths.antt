@@ -7,7 +7,7 @@ use mathlib.Core.List.{List, [], _∷_}
 use lib.ListN.{length, length-append}
 use Rattle.reader.specs.Text.{decimal, decimalBy}
 use Rattle.reader.specs.Written.{lineOf, joined, commas, each}
-use Rattle.reader.specs.Laws.All.{All, all-head, all-tail}
+use Rattle.base.specs.Laws.All.{All, all-head, all-tail}
 use Rattle.reader.specs.Laws.Numbers.{decimalBy-length, one-digit, more-digits}
 
 -- a number below 10 ^ k has at most k digits

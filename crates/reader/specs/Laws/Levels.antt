@@ -7,14 +7,14 @@ use mathlib.Core.Bool.{true}
 use mathlib.Core.List.{List, [], _∷_}
 use lib.ListN.{length, getD, take, replicate}
 use lib.Seq.{length-take-le}
-use Rattle.mask.specs.Laws.Tests.{passes}
+use Rattle.base.specs.Laws.Tests.{passes}
 use Rattle.policy.specs.Record.{withLevels}
 use Rattle.policy.specs.Questions.{levelsFit, weightsFit}
 use Rattle.reader.specs.declared.Reading.{Reading}
 use Rattle.reader.specs.Written.{fileOf}
-use Rattle.reader.specs.Format.{filled}
+use Rattle.base.specs.Lists.{filled}
 use Rattle.reader.specs.File.{recordOf, readingOf, draftOf, readOf}
-use Rattle.reader.specs.Laws.All.{all-of}
+use Rattle.base.specs.Laws.All.{all-of}
 use Rattle.reader.specs.Laws.Readings.{textOf, ReadableEntries, ReadableLines}
 use Rattle.reader.specs.Laws.Files.{drafted, read-passed, draft-complete}
 

@@ -4,7 +4,7 @@ use Prim.Native.Nat.{ℕ, _<_}
 use mathlib.Core.Bool.{true}
 use mathlib.Core.List.{List}
 use mathlib.Core.Path.{_≡_}
-use Rattle.mask.specs.Laws.Tests.{is-true}
+use Rattle.base.specs.Laws.Tests.{is-true}
 use Rattle.policy.specs.Record.{withLevels}
 use Rattle.policy.specs.Questions.{weightsFit}
 use Rattle.engine.specs.declared.Levelling.{Levelling}

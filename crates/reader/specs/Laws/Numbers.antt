@@ -10,11 +10,11 @@ use lib.ListN.{length, getD, length-append, List·getD-append}
 use lib.Dec.{T, T-not, not-T, eqb}
 use mir.Facts.{and-yes, yes-and, or-yes, eqb-yes, eqb-no, yes-eqb, no-eqb, leb-yes, yes-leb}
 use borrow.Author.Tests.{lt-ltb, le-ltb}
-use Rattle.mask.specs.Every.{every}
+use Rattle.base.specs.Every.{every}
 use Rattle.reader.specs.Text.{decimal, decimalBy}
 use Rattle.reader.specs.Format.{isDigit, isNumber, spelt}
-use Rattle.mask.specs.Laws.Tests.{parts, or-left, or-right}
-use Rattle.reader.specs.Laws.Tests.{between-yes, yes-between, every-both}
+use Rattle.base.specs.Laws.Tests.{parts, or-left, or-right}
+use Rattle.base.specs.Laws.Tests.{between-iff, every-both}
 
 -- digits after digits go on from what the first spell
 spelt-append : (v : ℕ) (c d : List ℕ) → spelt v (c ++ d) ≡ spelt (spelt v c) d
@@ -56,7 +56,7 @@ record Digits (n : ℕ) (c : List ℕ) : Type 0 where
 -- a digit's byte
 digit : (d : ℕ) → d < 10 → T (isDigit (48 + d))
 unfolding isDigit
-digit d h = yes-between 48 (48 + d) 57 (omega arith, omega arith)
+digit d h = between-iff 48 (48 + d) 57 .1 (omega arith, omega arith)
 
 -- one more digit
 one-more : (n : ℕ) (c : List ℕ) → 10 ≤ n → Digits (n / 10) c → Digits n (c ++ ((48 + n % 10) ∷ []))
@@ -167,7 +167,7 @@ module _ (n : ℕ) (h : n < 100000) where
 -- the bytes of the digits
 pub digit-range : (b : ℕ) → T (isDigit b) → (48 ≤ b) × (b ≤ 57)
 unfolding isDigit
-digit-range b t = between-yes 48 b 57 t
+digit-range b t = between-iff 48 b 57 .0 t
 
 -- digits after those of a number v that is not 0 are the digits of what they spell
 further-digits : (c : List ℕ) (fuel more v : ℕ) → more ≡ fuel + length c → 0 < v → T (every isDigit c)

@@ -14,7 +14,7 @@ use Rattle.policy.specs.Record.{listed, levelsOf, actionsOf, rulesOf}
 use Rattle.reader.specs.declared.Reading.{Reading}
 use Rattle.reader.specs.Text.{decimal}
 use Rattle.reader.specs.Written.{letterOf, commas, levelText, actionText, ruleText, queryText, entriesText, fileOf}
-use Rattle.reader.specs.Laws.Tests.{fits-parts}
+use Rattle.reader.specs.Laws.Lists.{fits-parts}
 use Rattle.reader.specs.Laws.Lengths.{decimal-length, line-length, each-length, commas-length}
 use Rattle.reader.specs.Laws.Lists.{ReadableList}
 use Rattle.reader.specs.Laws.Records.{ReadableAction, ReadableRule, ReadableQuery}

@@ -7,7 +7,7 @@ use Rattle.policy.specs.declared.Rule.{Rule}
 use Rattle.policy.specs.declared.Action.{Action}
 use Rattle.policy.specs.declared.Policy.{Policy}
 use Rattle.reader.specs.File.{recordOf}
-use Rattle.reader.specs.Format.{filled}
+use Rattle.base.specs.Lists.{filled}
 use Rattle.threshold.specs.AtLeast.{atLeast}
 use Rattle.threshold.specs.Laws.Taken.{rows-length}
 use Rattle.threshold.proofs.policy.Statement.{statement}

@@ -6,7 +6,7 @@ use borrow.Author.Needs.{needs}
 use lib.ListN.{replicate}
 use Rattle.reader.specs.declared.Queries.{Queries}
 use Rattle.reader.specs.File.{zeroQuery, readingOf}
-use Rattle.reader.specs.Format.{filled}
+use Rattle.base.specs.Lists.{filled}
 use Rattle.threshold.specs.AtLeast.{eight, stated}
 use Rattle.threshold.proofs.queries.Statement.{statement}
 use Rattle.threshold.proofs.queries.Tie as tie

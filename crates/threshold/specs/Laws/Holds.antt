@@ -8,22 +8,22 @@ use native.Mathlib.Omega.{arith}
 use lib.Dec.{T, T-not, eqb·suc-suc, eqb·suc-zero}
 use lib.ListN.{List·getD-append}
 use Rattle.mask.specs.Mask.{has, _⊆_}
-use Rattle.mask.specs.Counted.{counted}
+use Rattle.base.specs.Counted.{counted}
 use Rattle.mask.specs.Laws.{has-none, one-has, one-⊆}
-use Rattle.mask.specs.Laws.Counted.{counted-most}
-use Rattle.mask.specs.Laws.Tests.{is-true, is-false, either, getD-filled, getD-in, place-of}
+use Rattle.base.specs.Laws.Counted.{counted-most}
+use Rattle.base.specs.Laws.Tests.{is-true, is-false, either, getD-filled, getD-in, place-of}
 use Rattle.policy.specs.declared.Rule.{Rule}
 use Rattle.policy.specs.Record.{noRule, listed, rulesOf, ruleOf, headOf, levelOf}
 use Rattle.model.specs.World.{Enabled}
 use Rattle.model.specs.Derivation.{Derivable}
 use Rattle.model.specs.Model.{Applies, Model}
-use Rattle.model.specs.Laws.Each.{Each, each-nil, each-cons, each-head}
+use Rattle.base.specs.Laws.All.{All, all-nil, all-cons, all-head}
 use Rattle.model.specs.Laws.Model.{is-model}
-use Rattle.reader.specs.Format.{filled}
+use Rattle.base.specs.Lists.{filled}
 use Rattle.reader.specs.File.{zeroRule, recordOf}
 use Rattle.reader.specs.Laws.Lists.{listed-of}
-use Rattle.reader.specs.Laws.Readings.{filled-front}
-use Rattle.reader.specs.Laws.Back.{filled-length}
+use Rattle.base.specs.Laws.Lists.{filled-front}
+use Rattle.base.specs.Laws.Lists.{filled-length}
 use Rattle.threshold.specs.AtLeast.{There, number, without, fewer, having, rulesFor, rows, atLeast, eight}
 use Rattle.threshold.specs.Laws.Taken.{rows-length, rules-are, accepted}
 use Rattle.threshold.specs.Laws.Numbers.{apart, is-rule, without-in, having-in, rows-at, rows-make}
@@ -101,13 +101,13 @@ module _ (w : ℕ) where
   model = is-model atLeast eight accepted w .model
 
   -- the head of a rule that applies has a derivation
-  apply : (i j : ℕ) (r : Rule) → There i j → List·Memᴰ r (rulesFor i j) → Enabled w r → Each M (listed (r .ifs)) → M (r .head)
+  apply : (i j : ℕ) (r : Rule) → There i j → List·Memᴰ r (rulesFor i j) → Enabled w r → All M (listed (r .ifs)) → M (r .head)
   apply i j r there m on ifs =
       let (k, below, at) = rule-place r (rows-make 16 i j r (there .actions) there m) in
       subst (λ (r : Rule). M (r .head)) at (model .closed k (record {
         exists = omega (arith, rules-are);
         enabled = subst (λ (r : Rule). Enabled w r) (sym at) on;
-        ifs = subst (λ (r : Rule). Each M (listed (r .ifs))) (sym at) ifs;
+        ifs = subst (λ (r : Rule). All M (listed (r .ifs))) (sym at) ifs;
         unless = λ d u. absurd (List·Memᴰ·not-nil (subst (λ (l : List ℕ). List·Memᴰ d l)
             (ap (λ (r : Rule). listed (r .unless)) at ∙ no-unless i j r m) u));
       }))
@@ -116,9 +116,9 @@ module _ (w : ℕ) where
   by-without : (i j : ℕ) → There (suc i) j → j ≤ i → M (number i j) → M (number (suc i) j)
   unfolding without
   by-without i j there less m = apply (suc i) j (without (suc i) j) there (without-in (suc i) j (omega arith))
-      (λ a t. absurd (has-none a t)) (subst (Each M) (sym (without-ifs i j)) (each-cons m (each-nil M)))
+      (λ a t. absurd (has-none a t)) (subst (All M) (sym (without-ifs i j)) (all-cons m (all-nil M)))
 
-  by-having : (i j : ℕ) → There (suc i) j → T (has w i) → Each M (listed (having (suc i) j .ifs)) → M (number (suc i) j)
+  by-having : (i j : ℕ) → There (suc i) j → T (has w i) → All M (listed (having (suc i) j .ifs)) → M (number (suc i) j)
   unfolding having
   by-having i j there t ifs = apply (suc i) j (having (suc i) j) there (having-in (suc i) j)
       (subst (λ (x : ℕ). x ⊆ w) (sym (having-needs i j)) (one-⊆ w i t)) ifs
@@ -137,11 +137,11 @@ module _ (w : ℕ) where
 
   -- a world with at least j of the first i actions derives the decision
   having-derived : (i j : ℕ) → ((k : ℕ) → There i k → k ≤ counted (has w) i → M (number i k)) → There (suc i) j → T (has w i)
-      → j ≤ counted (has w) (suc i) → Each M (listed (having (suc i) j .ifs))
+      → j ≤ counted (has w) (suc i) → All M (listed (having (suc i) j .ifs))
   having-derived i zero derived there t held = absurd (omega (arith, there .some))
-  having-derived i (suc zero) derived there t held = subst (Each M) (sym (having-first (suc i))) (each-nil M)
-  having-derived i (suc (suc j)) derived there t held = subst (Each M) (sym (having-ifs i j))
-      (each-cons (derived (suc j) (fewer-there there) (omega (arith, counted-with w i t))) (each-nil M))
+  having-derived i (suc zero) derived there t held = subst (All M) (sym (having-first (suc i))) (all-nil M)
+  having-derived i (suc (suc j)) derived there t held = subst (All M) (sym (having-ifs i j))
+      (all-cons (derived (suc j) (fewer-there there) (omega (arith, counted-with w i t))) (all-nil M))
 
   derives : (i j : ℕ) → There i j → j ≤ counted (has w) i → M (number i j)
   derives zero j there held = absurd (omega (arith, there .some, there .fits))
@@ -158,30 +158,30 @@ module _ (w : ℕ) where
   Says d = (i j : ℕ) → There i j → number i j ≡ d → j ≤ counted (has w) i
 
   -- each rule gives a decision that is true, from decisions that are
-  says-without : (i j : ℕ) → There (suc i) j → j ≤ i → Each Says (listed (without (suc i) j .ifs)) → j ≤ counted (has w) (suc i)
+  says-without : (i j : ℕ) → There (suc i) j → j ≤ i → All Says (listed (without (suc i) j .ifs)) → j ≤ counted (has w) (suc i)
   says-without i j there less f =
-      let one = each-head (subst (Each Says) (without-ifs i j) f) in
+      let one = all-head (subst (All Says) (without-ifs i j) f) in
       omega (arith, counted-grows w i, one i j (less-there there less) refl)
 
-  says-having : (i j : ℕ) → There (suc i) j → T (has w i) → Each Says (listed (having (suc i) j .ifs)) → j ≤ counted (has w) (suc i)
+  says-having : (i j : ℕ) → There (suc i) j → T (has w i) → All Says (listed (having (suc i) j .ifs)) → j ≤ counted (has w) (suc i)
   says-having i zero there t f = absurd (omega (arith, there .some))
   says-having i (suc zero) there t f = omega (arith, counted-with w i t)
   says-having i (suc (suc j)) there t f =
-      let one = each-head (subst (Each Says) (having-ifs i j) f) in
+      let one = all-head (subst (All Says) (having-ifs i j) f) in
       omega (arith, counted-with w i t, one i (suc j) (fewer-there there) refl)
 
-  says-rule : (i j : ℕ) (r : Rule) → There i j → List·Memᴰ r (rulesFor i j) → Enabled w r → Each Says (listed (r .ifs))
+  says-rule : (i j : ℕ) (r : Rule) → There i j → List·Memᴰ r (rulesFor i j) → Enabled w r → All Says (listed (r .ifs))
       → j ≤ counted (has w) i
   says-rule zero j r there m on f = absurd (omega (arith, there .some, there .fits))
   says-rule (suc i) j r there m on f = ⊎-elim
       (λ (e : (j < suc i) × (r ≡ without (suc i) j)). says-without i j there (omega arith)
-      (subst (λ (r : Rule). Each Says (listed (r .ifs))) (e .1) f))
+      (subst (λ (r : Rule). All Says (listed (r .ifs))) (e .1) f))
       (λ (e : r ≡ having (suc i) j). says-having i j there
       (subst (λ (x : ℕ). x ⊆ w) (ap (λ (r : Rule). r .needs) e ∙ having-needs i j) on i (one-has i))
-      (subst (λ (r : Rule). Each Says (listed (r .ifs))) e f))
+      (subst (λ (r : Rule). All Says (listed (r .ifs))) e f))
       (is-rule (suc i) j r m)
 
-  says-head : (r : Rule) → List·Memᴰ r (rows 16) → Enabled w r → Each Says (listed (r .ifs)) → Says (r .head)
+  says-head : (r : Rule) → List·Memᴰ r (rows 16) → Enabled w r → All Says (listed (r .ifs)) → Says (r .head)
   says-head r m on f i j there e =
       let (k, l, there′, o) = rows-at 16 r (omega arith) m in
       let (same, same′) = apart i j k l there there′ (e ∙ head-is k l r o) in

@@ -9,7 +9,7 @@ use native.Mathlib.Decide.{decLt, le-ind}
 use native.Mathlib.Nat.{le-refl}
 use native.Mathlib.Omega.{arith}
 use lib.Dec.{T, ltb, ltb→lt, lt→ltb}
-use Rattle.mask.specs.Laws.Tests.{is-true}
+use Rattle.base.specs.Laws.Tests.{is-true}
 use Rattle.policy.specs.declared.Rule.{Rule}
 use Rattle.threshold.specs.AtLeast.{There, wide, decisionsTo, number, without, having, firstFor, rulesFor, row, rows}
 

@@ -10,9 +10,9 @@ use lib.Count.{ones}
 use lib.Dec.{T, lit<, eqb, eqb→eq}
 use lib.ListN.{length, getD, replicate}
 use Rattle.mask.specs.Mask.{has}
-use Rattle.mask.specs.Counted.{sized}
+use Rattle.mask.specs.Mask.{sized}
 use Rattle.mask.specs.Laws.{has-none, ⊆→<}
-use Rattle.mask.specs.Laws.Tests.{same}
+use Rattle.base.specs.Laws.Tests.{same}
 use Rattle.mask.specs.Laws.Ones.{counted-ones, fewer-ones, same-size, one-fewer}
 use Rattle.mask.specs.Laws.Layers.{layer, halves}
 use Rattle.policy.specs.declared.Action.{Action}
@@ -27,7 +27,7 @@ use Rattle.engine.specs.Calls.{slim, slimSets, listQuestions, listOf}
 use Rattle.engine.specs.Laws.Among.{among-same, among-counted}
 use Rattle.engine.specs.Laws.Decide.{slim-iff}
 use Rattle.engine.specs.Laws.Refusals.{refused, list-no}
-use Rattle.reader.specs.Format.{filled}
+use Rattle.base.specs.Lists.{filled}
 use Rattle.reader.specs.File.{recordOf}
 use Rattle.threshold.specs.AtLeast.{There, number, plain, atLeast, eight}
 use Rattle.threshold.specs.Laws.Taken.{accepted}

@@ -1,12 +1,13 @@
 -- The policy has document 02's counts, and is accepted with its query: by computation.
 use mathlib.Core.Path.{_≡_, refl}
 use lib.ListN.{length}
-use Rattle.mask.specs.Every.{every, everyBelow}
+use Rattle.base.specs.Every.{every, everyBelow}
 use Rattle.policy.specs.Questions.{firstNo, questions, queryInRange, inRange, othersInRange, countsInRange, levelInRange}
 use Rattle.policy.specs.Questions.{actionInRange, ruleInRange, listInRange, listsRise, ruleRises, rises, levelsFit, ruleLevelsFit}
 use Rattle.policy.specs.Questions.{levelsBelow, weightsFit, outweighs, heavier, Accepted}
 use Rattle.reader.specs.File.{recordOf, zeroRule}
-use Rattle.reader.specs.Format.{decisionsOf, filled}
+use Rattle.reader.specs.Format.{decisionsOf}
+use Rattle.base.specs.Lists.{filled}
 use Rattle.threshold.specs.AtLeast.{decisionsTo, number, without, fewer, having, firstFor, rulesFor, row, rows, plain}
 use Rattle.threshold.specs.AtLeast.{atLeast, eight}
 

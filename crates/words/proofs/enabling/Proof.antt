@@ -5,9 +5,9 @@ use native.Mathlib.Omega.{arith}
 use borrow.Author.Needs.{needs}
 use lib.ListN.{getD, length-replicate}
 use Rattle.policy.specs.Record.{ruleOf}
-use Rattle.mask.specs.Laws.Packed.{Filled}
+use Rattle.base.specs.Laws.Tables.{Tabled}
 use Rattle.columns.specs.Sets.{neededOf}
-use Rattle.mask.proofs.Filling.{filled-none, filled-more}
+use Rattle.base.proofs.Tabling.{tabled-none, tabled-more}
 use Rattle.columns.specs.Laws.Needed.{needed-lt}
 use Rattle.words.specs.Right.{AreWords}
 use Rattle.words.specs.Laws.Room.{are-words-none, are-words-set}
@@ -16,13 +16,13 @@ use Rattle.words.proofs.enabling.Tie as tie
 
 abbrev Inv-loop : tie.InvT-loop
 Inv-loop fours sets order count policy enabled₀ j₀ enabled j =
-    Filled (λ i. neededOf fours (ruleOf policy (getD order i 0) .needs) sets) 256 enabled j × (j ≤ count) × AreWords 256 enabled
+    Tabled (λ i. neededOf fours (ruleOf policy (getD order i 0) .needs) sets) 256 enabled j × (j ≤ count) × AreWords 256 enabled
 
 abbrev μ-loop : tie.MeasureT-loop
 μ-loop fours sets order count policy enabled₀ j₀ enabled j = count - j
 
 loop-holds : tie.Need-loop-holds Inv-loop μ-loop
-loop-holds c = (filled-none (length-replicate {A = ℕ} 256 0), omega arith, are-words-none 256)
+loop-holds c = (tabled-none (length-replicate {A = ℕ} 256 0), omega arith, are-words-none 256)
 
 -- the rule in hand has a place in the array
 small : (c : tie.In-loop Inv-loop μ-loop) → getD (c .before .before .args .order .now) (c .before .loop .j) 0 < 256
@@ -50,7 +50,7 @@ loop-again : tie.Need-loop-again Inv-loop μ-loop
 loop-again c =
     let top = c .before .before .before .before in
     let few : top .loop .j < 256 = omega (arith, top .before .pre .0) in (
-      filled-more (top .loop .inv .0) few (c .needed .ensures),
+      tabled-more (top .loop .inv .0) few (c .needed .ensures),
       omega arith,
       are-words-set _ _ few (subst (λ (x : ℕ). x < 2 ^ 64) (sym (c .needed .ensures)) (needed-lt _ _ _ (top .before .fits .sets .fits)))
           (top .loop .inv .2),
@@ -59,7 +59,7 @@ loop-again c =
 returns : tie.Need-returns Inv-loop μ-loop
 returns c =
     let last : c .before .loop .j ≡ c .before .before .args .count = omega (arith, c .before .loop .inv .1, c .loop-test .left) in
-    (subst (Filled _ 256 _) last (c .before .loop .inv .0), c .before .loop .inv .2)
+    (subst (Tabled _ 256 _) last (c .before .loop .inv .0), c .before .loop .inv .2)
 
 pub enabling-spec : {M : Type 1} → statement M
 enabling-spec =

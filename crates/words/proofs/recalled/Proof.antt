@@ -1,7 +1,7 @@
 -- `recalled` reads the word where it is known, and works it elsewhere.
 use native.Mathlib.Omega.{arith}
 use borrow.Author.Needs.{needs}
-use Rattle.mask.specs.Laws.Tests.{passes}
+use Rattle.base.specs.Laws.Tests.{passes}
 use Rattle.words.proofs.recalled.Statement.{statement}
 use Rattle.words.proofs.recalled.Tie as tie
 

@@ -9,7 +9,7 @@ use lib.ListN.{length}
 use lib.Seq.{getD-set-other}
 use Rattle.mask.specs.Mask.{has}
 use Rattle.mask.specs.Laws.{has-none, ⊆-antisym}
-use Rattle.mask.specs.Laws.Tests.{every-at, every-make}
+use Rattle.base.specs.Laws.Tests.{every-at, every-make}
 use Rattle.policy.specs.declared.Rule.{Rule}
 use Rattle.policy.specs.Record.{listed}
 use Rattle.words.specs.Words.{addedOf, grown}

@@ -10,7 +10,7 @@ use lib.ListN.{length, getD}
 use lib.Seq.{getD-set-same, getD-set-other, set-getD}
 use Rattle.mask.specs.Mask.{has}
 use Rattle.mask.specs.Laws.{has-or}
-use Rattle.mask.specs.Laws.Tests.{or-left, or-right, or-cases}
+use Rattle.base.specs.Laws.Tests.{or-left, or-right, or-cases}
 use Rattle.words.specs.Words.{grown}
 use Rattle.words.specs.Right.{bit}
 

@@ -11,7 +11,7 @@ use lib.ListN.{length, getD, set, replicate, length-set, length-replicate}
 use lib.Seq.{getD-set-same, getD-set-other}
 use Rattle.mask.specs.Mask.{has}
 use Rattle.mask.specs.Laws.{disjoint-iff}
-use Rattle.mask.specs.Laws.Tests.{getD-filled}
+use Rattle.base.specs.Laws.Tests.{getD-filled}
 use Rattle.policy.specs.declared.Rule.{Rule}
 use Rattle.words.specs.Words.{addedOf, grown}
 use Rattle.words.specs.Right.{AreWords}

@@ -9,10 +9,11 @@ use lib.Dec.{T, T-not, not-T, eqb, eqb→eq, ltb, ltb→lt, lt→ltb}
 use lib.ListN.{length, getD, replicate}
 use lib.Pow.{pow-mono}
 use Rattle.mask.specs.Mask.{has, disjoint}
-use Rattle.mask.specs.Packed.{table}
+use Rattle.base.specs.Lists.{table}
 use Rattle.mask.specs.Laws.{has-none, ⊆→<}
-use Rattle.mask.specs.Laws.Packed.{Filled, packed-lt, packed-bit, packed-only, table-only, table-at}
-use Rattle.mask.specs.Laws.Tests.{same, and-make, and-left, and-right}
+use Rattle.mask.specs.Laws.Packed.{packed-lt, packed-bit, packed-only}
+use Rattle.base.specs.Laws.Tables.{Tabled, table-only, table-at}
+use Rattle.base.specs.Laws.Tests.{same, and-make, and-left, and-right}
 use Rattle.policy.specs.declared.Policy.{Policy}
 use Rattle.policy.specs.declared.Query.{Query}
 use Rattle.policy.specs.Questions.{Accepted}
@@ -86,7 +87,7 @@ module _ (p : Policy) (q : Query) (ok : Accepted p q) (w : ℕ) (small : w ≤ 1
   pub enabling-holds : {order start words fours leads : List ℕ} {base count : ℕ} → Ordered p order start
       → base ≡ worldIn (p .action) (p .actions) (q .done) 0 → leads ≡ table 16 (λ a. worldIn (p .action) (p .actions) 0 (2 ^ a))
       → fours ≡ foursOf (table 16 (gathered base leads w)) → count ≡ p .rules
-      → Filled (λ j. neededOf fours (ruleOf p (getD order j 0) .needs) sets) 256 words count → Enabling p q w sets order words
+      → Tabled (λ j. neededOf fours (ruleOf p (getD order j 0) .needs) sets) 256 words count → Enabling p q w sets order words
   unfolding worldOf
   enabling-holds {order} {start} {words} {fours} {leads} {base} sorted b l e c f = record {
     each = λ j h i. ap (λ (x : ℕ). has x i) (f .entries j (omega arith)
@@ -103,9 +104,9 @@ module _ (p : Policy) (q : Query) (ok : Accepted p q) (w : ℕ) (small : w ≤ 1
   pub enabling-given : {order start words fours leads : List ℕ} {base count given : ℕ} → Ordered p order start
       → base ≡ worldIn (p .action) (p .actions) (q .done) 0 → leads ≡ table 16 (λ a. worldIn (p .action) (p .actions) 0 (2 ^ a))
       → fours ≡ foursOf (table 16 (gathered base leads w)) → count ≡ p .rules → given ≡ sets
-      → Filled (λ j. neededOf fours (ruleOf p (getD order j 0) .needs) given) 256 words count → Enabling p q w given order words
+      → Tabled (λ j. neededOf fours (ruleOf p (getD order j 0) .needs) given) 256 words count → Enabling p q w given order words
   enabling-given {order} {start} {words} {fours} {leads} {base} {count} sorted b l e c g = subst (λ (s : ℕ).
-      Filled (λ j. neededOf fours (ruleOf p (getD order j 0) .needs) s) 256 words count → Enabling p q w s order words) (sym g)
+      Tabled (λ j. neededOf fours (ruleOf p (getD order j 0) .needs) s) 256 words count → Enabling p q w s order words) (sym g)
       (enabling-holds sorted b l e c)
 
   -- where no set is offered

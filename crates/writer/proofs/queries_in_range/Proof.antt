@@ -6,8 +6,8 @@ use mathlib.Core.Bool.{_&&_}
 use mathlib.Core.Path.{sym}
 use borrow.Author.Needs.{needs}
 use borrow.Author.Tests.{le-leb, lt-leb}
-use Rattle.mask.proofs.Every.{Passed, passed-none, passed-more, passed-fails, passed-all}
-use Rattle.mask.proofs.Tested.{tested-no, tested-yes}
+use Rattle.base.proofs.Every.{Passed, passed-none, passed-more, passed-fails, passed-all}
+use Rattle.base.proofs.Tested.{tested-no, tested-yes}
 use Rattle.policy.specs.Questions.{isDecision, isMask}
 use Rattle.policy.proofs.Arrays.{length-mapped}
 use Rattle.reader.specs.File.{zeroQuery}

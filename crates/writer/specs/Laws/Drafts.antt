@@ -5,7 +5,7 @@ use mathlib.Core.List.{List, [], _∷_}
 use mathlib.Core.Path.{_≡_, refl, _∙_}
 use lib.Dec.{T, le→leb}
 use lib.ListN.{length}
-use Rattle.mask.specs.Laws.Tests.{passes, and-make}
+use Rattle.base.specs.Laws.Tests.{passes, and-make}
 use Rattle.policy.specs.Questions.{Question, firstNo, questions, inRange, levelsFit, weightsFit}
 use Rattle.policy.specs.Laws.{firstNo-yes}
 use Rattle.reader.specs.File.{draftOf}

@@ -7,7 +7,7 @@ use native.Mathlib.Omega.{arith}
 use borrow.Author.Tests.{lt-leb}
 use lib.Dec.{le→leb}
 use lib.ListN.{length}
-use Rattle.mask.specs.Laws.Tests.{fails}
+use Rattle.base.specs.Laws.Tests.{fails}
 use Rattle.policy.specs.declared.Policy.{Policy}
 use Rattle.policy.specs.Questions.{firstNo}
 use Rattle.policy.specs.Laws.{all-yes, firstNo-stays, firstNo-front, firstNo-last, firstNo-last-no}

@@ -7,8 +7,8 @@ use native.Mathlib.Omega.{arith}
 use lib.Dec.{T, leb, leb→le, le→leb}
 use lib.ListN.{length, getD, take, drop}
 use lib.Seq.{take-at, drop-at}
-use Rattle.mask.specs.Every.{every}
-use Rattle.mask.specs.Laws.Tests.{is-true, passes, and-make, parts, entry-at, entries-make}
+use Rattle.base.specs.Every.{every}
+use Rattle.base.specs.Laws.Tests.{is-true, passes, and-make, parts, entry-at, entries-make}
 use Rattle.policy.specs.declared.Policy.{Policy}
 use Rattle.policy.specs.Questions.{firstNo, questions, queryInRange}
 use Rattle.policy.specs.Laws.{Answers, answers, answered-with, firstNo-zero}

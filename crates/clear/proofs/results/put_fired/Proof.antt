@@ -2,7 +2,7 @@
 use mathlib.Core.Path.{_≡_, ap}
 use borrow.Author.Needs.{needs}
 use lib.ListN.{length}
-use Rattle.mask.proofs.Every.{held-within, held-length, held-take}
+use Rattle.base.proofs.Every.{front-within, front-length, front-take}
 use Rattle.reader.specs.Text.{ascii}
 use Rattle.reader.specs.Written.{lineOf, commas}
 use Rattle.text.specs.Laws.Putting.{same-text}
@@ -15,22 +15,22 @@ long c = search needs
 
 array-share-prefix-rules : tie.Need-array-share-prefix-rules
 array-share-prefix-rules c =
-    let held = c .before .before in
-    let start = held .before .before .before .before in
-    held-within (start .args .firing .rules) _ (long start) (held .held .ensures)
+    let count = c .before .before in
+    let start = count .before .before .before .before in
+    front-within (start .args .firing .rules) _ (long start) (count .smaller .ensures)
 
 slice-aggregate-list-2 : tie.Need-slice-aggregate-list-2
 slice-aggregate-list-2 c =
-    let held = c .before .before .before in
-    let start = held .before .before .before .before in
-    held-length (start .args .firing .rules) _ (long start) (held .held .ensures)
+    let count = c .before .before .before in
+    let start = count .before .before .before .before in
+    front-length (start .args .firing .rules) _ (long start) (count .smaller .ensures)
 
 returns : tie.Need-returns
 unfolding lineOf
 returns c =
-    let held = c .before .before .before .before .before .before in
-    let start = held .before .before .before .before in
-    let all = held-take (start .args .firing .rules) _ (long start) (held .held .ensures) in
+    let count = c .before .before .before .before .before .before in
+    let start = count .before .before .before .before in
+    let all = front-take (start .args .firing .rules) _ (long start) (count .smaller .ensures) in
     same-text (c .before .before .list .ensures) (ap (λ l. lineOf (ascii "fired") (commas l)) all)
 
 pub put-fired-spec : {M : Type 1} → statement M

@@ -5,7 +5,7 @@ use native.Mathlib.Omega.{arith}
 use borrow.Author.Needs.{needs}
 use denote.Ref.{now}
 use lib.ListN.{take}
-use Rattle.mask.proofs.Every.{held-take}
+use Rattle.base.proofs.Every.{front-take}
 use Rattle.reader.specs.Written.{commas, joined}
 use Rattle.text.specs.Put.{Puts}
 use Rattle.text.specs.Laws.Putting.{nothing, same-length, same-text}
@@ -33,11 +33,11 @@ loop-again c =
 returns : tie.Need-returns Inv-loop μ-loop
 returns c =
     let l = c .before .loop in
-    let h = c .before .before .held in
+    let h = c .before .before .smaller in
     let s = c .before .before .before .before in
     let ps = now (s .args .places) in
     let last : l .i ≡ h .result = omega arith in
-    let all = held-take ps (s .args .count) (s .pre) (last ∙ h .ensures) in
+    let all = front-take ps (s .args .count) (s .pre) (last ∙ h .ensures) in
     same-text (l .inv .1) (ap commas all)
 
 pub put-sets-spec : {M : Type 1} → statement M

@@ -4,7 +4,7 @@ use Rattle.policy.specs.Laws.{accepted-range}
 use Rattle.engine.specs.Calls.{keepFor}
 use Rattle.engine.specs.Laws.Keep.{keep-zero}
 use Rattle.engine.specs.Laws.More.{no-unless, enough-more}
-use Rattle.mask.proofs.Tested.{tested-no}
+use Rattle.base.proofs.Tested.{tested-no}
 use Rattle.engine.proofs.keeping.beside.Statement.{statement}
 use Rattle.engine.proofs.keeping.beside.Tie as tie
 

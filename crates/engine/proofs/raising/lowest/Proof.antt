@@ -4,7 +4,7 @@ use mathlib.Core.Logic.{⊎-elim}
 use native.Mathlib.Omega.{arith}
 use borrow.Author.Tests.{not-true, not-false}
 use lib.ListN.{replicate}
-use Rattle.mask.specs.Laws.Tests.{passes}
+use Rattle.base.specs.Laws.Tests.{passes}
 use Rattle.policy.specs.Record.{ruleOf, withLevels}
 use Rattle.policy.specs.Questions.{othersInRange}
 use Rattle.policy.specs.Laws.{RuleFits, rule-wider, InRange}

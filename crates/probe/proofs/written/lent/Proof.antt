@@ -14,14 +14,14 @@ cast-keyed-2 c =
     let few = bounds _ _ _ _ _ _ (c .before .before .written2 .given .1) (write .write .ensures .1 .1) in
     omega (arith, few, write .before .before .before .pre)
 
-add-held : tie.Need-add-held
-add-held c =
+add-smaller : tie.Need-add-smaller
+add-smaller c =
     let write = c .before .before .before .before .before .before .before .before .before in
     let few = bounds _ _ _ _ _ _ (c .before .before .before .before .before .written2 .given .1) (write .write .ensures .1 .1) in
     omega (arith, few, write .before .before .before .pre)
 
 slice-aggregate-text-2 : tie.Need-slice-aggregate-text-2
-slice-aggregate-text-2 c = sym (length-take-le (c .before .held .result) _ (omega (arith, c .before .held .ensures)))
+slice-aggregate-text-2 c = sym (length-take-le (c .before .smaller .result) _ (omega (arith, c .before .smaller .ensures)))
 
 pub lent-spec : {M : Type 1} → statement M
 lent-spec =
@@ -29,5 +29,5 @@ lent-spec =
     (tie.spec
     (λ c κs. search needs) (λ c. search needs) (λ c. search needs) (λ c. search needs) (λ c κs. search needs) (λ c. search needs)
     (λ c κs. search needs) (λ c κs. search needs) (λ c. search needs) (λ c. search needs) cast-keyed-2 (λ c κs. search needs)
-    (λ c. search needs) (λ c κs. search needs) add-held (λ c κs. search needs) (λ c. search needs) slice-aggregate-text-2
+    (λ c. search needs) (λ c κs. search needs) add-smaller (λ c κs. search needs) (λ c. search needs) slice-aggregate-text-2
     (λ c κs. search needs) (λ c. search needs) (λ c. search needs) (λ c. search needs) (λ c. search needs))

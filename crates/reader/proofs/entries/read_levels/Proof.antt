@@ -4,7 +4,8 @@ use mathlib.Core.Path.{refl}
 use native.Mathlib.Omega.{arith}
 use borrow.Author.Needs.{needs}
 use Rattle.reader.specs.Text.{ascii}
-use Rattle.reader.specs.Format.{filled, numberLine}
+use Rattle.reader.specs.Format.{numberLine}
+use Rattle.base.specs.Lists.{filled}
 use Rattle.reader.specs.Laws.Places.{ParsedTimes}
 use Rattle.reader.proofs.Steps.{begins, turns, all-turns}
 use Rattle.reader.proofs.entries.read_levels.Statement.{statement}

@@ -3,7 +3,7 @@ use Prim.Native.Nat.{_-_, _≤_}
 use mathlib.Core.Path.{refl}
 use native.Mathlib.Omega.{arith}
 use borrow.Author.Needs.{needs}
-use Rattle.reader.specs.Format.{filled}
+use Rattle.base.specs.Lists.{filled}
 use Rattle.reader.specs.File.{zeroQuery, query}
 use Rattle.reader.specs.Laws.Places.{ParsedTimes}
 use Rattle.reader.proofs.Steps.{next, ends, begins, turns, all-turns}

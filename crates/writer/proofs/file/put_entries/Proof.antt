@@ -2,7 +2,7 @@
 use mathlib.Core.Path.{_≡_, ap}
 use borrow.Author.Needs.{needs}
 use lib.ListN.{length}
-use Rattle.mask.proofs.Every.{held-within, held-length, held-take}
+use Rattle.base.proofs.Every.{front-within, front-length, front-take}
 use Rattle.reader.specs.Written.{lineOf, each, levelText, entriesText}
 use Rattle.text.specs.Laws.Putting.{both, same-text}
 use Rattle.writer.proofs.file.put_entries.Statement.{statement}
@@ -14,15 +14,15 @@ long c = search needs
 
 array-share-prefix-level : tie.Need-array-share-prefix-level
 array-share-prefix-level c =
-    let held = c .before .before in
-    let start = held .before .before .before .before .before .before in
-    held-within (start .args .policy .level) _ (long start) (held .held .ensures)
+    let count = c .before .before in
+    let start = count .before .before .before .before .before .before in
+    front-within (start .args .policy .level) _ (long start) (count .smaller .ensures)
 
 slice-aggregate-lines-2 : tie.Need-slice-aggregate-lines-2
 slice-aggregate-lines-2 c =
-    let held = c .before .before .before in
-    let start = held .before .before .before .before .before .before in
-    held-length (start .args .policy .level) _ (long start) (held .held .ensures)
+    let count = c .before .before .before in
+    let start = count .before .before .before .before .before .before in
+    front-length (start .args .policy .level) _ (long start) (count .smaller .ensures)
 
 returns : tie.Need-returns
 unfolding entriesText levelText lineOf
@@ -31,9 +31,9 @@ returns c =
     let count = rules .before .before .before .before in
     let actions = count .before .before .before .before .before .before in
     let levels = actions .before .before .before .before in
-    let held = levels .before .before .before .before in
-    let start = held .before .before .before .before .before .before in
-    let all = held-take (start .args .policy .level) _ (long start) (held .held .ensures) in
+    let front = levels .before .before .before .before in
+    let start = front .before .before .before .before .before .before in
+    let all = front-take (start .args .policy .level) _ (long start) (front .smaller .ensures) in
     both (same-text (levels .lines .ensures) (ap (each levelText) all))
     (both (actions .put-actions .ensures) (both (count .line .ensures) (rules .put-rules .ensures)))
 

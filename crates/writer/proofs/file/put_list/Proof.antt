@@ -4,7 +4,7 @@ use mathlib.Core.Path.{_≡_, ap}
 use borrow.Author.Needs.{needs}
 use denote.Ref.{now}
 use lib.ListN.{length}
-use Rattle.mask.proofs.Every.{held-within, held-length, held-take}
+use Rattle.base.proofs.Every.{front-within, front-length, front-take}
 use Rattle.reader.specs.Text.{ascii}
 use Rattle.reader.specs.Written.{commas}
 use Rattle.text.specs.Laws.Putting.{same-text}
@@ -18,20 +18,20 @@ long c = search needs
 array-share-prefix-decisions : tie.Need-array-share-prefix-decisions
 array-share-prefix-decisions c =
     let start = c .before .before .before .before .before .before in
-    held-within (start .args .list .at) _ (long start) (c .before .held .ensures)
+    front-within (start .args .list .at) _ (long start) (c .before .smaller .ensures)
 
 slice-aggregate-list : tie.Need-slice-aggregate-list
 slice-aggregate-list c =
-    let held = c .before .before in
-    let start = held .before .before .before .before .before in
-    held-length (start .args .list .at) _ (long start) (held .held .ensures)
+    let count = c .before .before in
+    let start = count .before .before .before .before .before in
+    front-length (start .args .list .at) _ (long start) (count .smaller .ensures)
 
 returns : tie.Need-returns
 returns c =
-    let held = c .before .before .before .before .before in
-    let start = held .before .before .before .before .before in
+    let count = c .before .before .before .before .before in
+    let start = count .before .before .before .before .before in
     same-text (c .before .before .list .ensures) (ap (λ ds. now (start .args .key) ++ (commas ds ++ ascii "\n"))
-    (held-take (start .args .list .at) _ (long start) (held .held .ensures)))
+    (front-take (start .args .list .at) _ (long start) (count .smaller .ensures)))
 
 pub put-list-spec : {M : Type 1} → statement M
 put-list-spec =

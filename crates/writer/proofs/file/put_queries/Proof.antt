@@ -16,7 +16,7 @@ abbrev μ-loop : tie.MeasureT-loop
 μ-loop buffer₀ at count query end end₀ i₀ buffer last i = end - i
 
 loop-holds : tie.Need-loop-holds Inv-loop μ-loop
-loop-holds c = texts-none _ _ (search needs) (omega (arith, c .held .ensures))
+loop-holds c = texts-none _ _ (search needs) (omega (arith, c .smaller .ensures))
 
 loop-again : tie.Need-loop-again Inv-loop μ-loop
 loop-again c =
@@ -24,7 +24,7 @@ loop-again c =
     texts-more (turn .before .loop .inv) zeroQuery (omega arith) (c .before .before .put-query .ensures)
 
 returns : tie.Need-returns Inv-loop μ-loop
-returns c = texts-all (c .before .loop .inv) _ (c .before .before .held .ensures) (c .loop-test .left)
+returns c = texts-all (c .before .loop .inv) _ (c .before .before .smaller .ensures) (c .loop-test .left)
 
 pub put-queries-spec : {M : Type 1} → statement M
 put-queries-spec =

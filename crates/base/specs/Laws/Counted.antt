@@ -6,8 +6,8 @@ use mathlib.Core.Path.{_≡_, refl, ap}
 use native.Mathlib.Nat.{le-refl, not-suc-le-zero, add-zero, add-suc}
 use native.Mathlib.Omega.{arith}
 use lib.Dec.{T}
-use Rattle.mask.specs.Counted.{counted}
-use Rattle.mask.specs.Laws.Tests.{is-true, is-false, last-or-below, below-suc}
+use Rattle.base.specs.Counted.{counted}
+use Rattle.base.specs.Laws.Tests.{is-true, is-false, last-or-below, below-suc}
 
 -- a number counts once at most
 one : (b : Bool) → cond b 1 0 ≤ 1

@@ -6,15 +6,15 @@ use native.Mathlib.Decide.{ℕ-discrete}
 use native.Mathlib.Omega.{arith}
 use lib.ListN.{length, getD, set, length-set}
 use lib.Seq.{getD-set-same, getD-set-other}
-use Rattle.mask.specs.Packed.{table}
-use Rattle.mask.specs.Laws.Packed.{Filled, table-only}
+use Rattle.base.specs.Lists.{table}
+use Rattle.base.specs.Laws.Tables.{Tabled, table-only}
 
-pub filled-none : {f : ℕ → ℕ} {n : ℕ} {l : List ℕ} → length l ≡ n → Filled f n l 0
-filled-none e = record { size = e; within = zero-le; entries = λ j h. absurd (omega arith) }
+pub tabled-none : {f : ℕ → ℕ} {n : ℕ} {l : List ℕ} → length l ≡ n → Tabled f n l 0
+tabled-none e = record { size = e; within = zero-le; entries = λ j h. absurd (omega arith) }
 
-module _ {f : ℕ → ℕ} {n : ℕ} {l : List ℕ} {i : ℕ} (p : Filled f n l i) where
-  pub filled-more : {v : ℕ} → i < n → v ≡ f i → Filled f n (set l i v) (i + 1)
-  filled-more {v} h e = record {
+module _ {f : ℕ → ℕ} {n : ℕ} {l : List ℕ} {i : ℕ} (p : Tabled f n l i) where
+  pub tabled-more : {v : ℕ} → i < n → v ≡ f i → Tabled f n (set l i v) (i + 1)
+  tabled-more {v} h e = record {
     size = length-set l i v ∙ p .size;
     within = omega arith;
     entries = λ j k. elim (ℕ-discrete j i) [
@@ -23,5 +23,5 @@ module _ {f : ℕ → ℕ} {n : ℕ} {l : List ℕ} {i : ℕ} (p : Filled f n l 
     ];
   }
 
-  pub filled-all : n ≤ i → l ≡ table n f
-  filled-all h = table-only n f l (p .size) (λ j k. p .entries j (omega arith))
+  pub tabled-all : n ≤ i → l ≡ table n f
+  tabled-all h = table-only n f l (p .size) (λ j k. p .entries j (omega arith))
