@@ -2,7 +2,7 @@
 ghost use mathlib.Core.Path.{_≡_};
 ghost use Rattle.policy.specs.Questions.{Accepted};
 ghost use Rattle.words.specs.Known.{Known};
-ghost use Rattle.words.specs.Right.{Planned};
+ghost use Rattle.words.specs.Plan.{Planned};
 ghost use Rattle.engine.specs.Sets.{Enough};
 ghost use Rattle.engine.specs.Calls.{keepFor};
 use policy::Policy;

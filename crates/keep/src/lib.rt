@@ -9,7 +9,7 @@ ghost use Rattle.mask.specs.Laws.Minimal.{covered};
 ghost use Rattle.policy.specs.Questions.{Accepted};
 ghost use Rattle.model.specs.Clears.{clears};
 ghost use Rattle.words.specs.Known.{Known};
-ghost use Rattle.words.specs.Right.{Planned};
+ghost use Rattle.words.specs.Plan.{Planned};
 ghost use Rattle.covers.specs.Covers.{wordsOf, Members, Table};
 ghost use Rattle.keep.specs.Keep.{foundOr0, spoilt, keepOf};
 ghost use Rattle.keep.specs.Search.{someUnless, unmarked};

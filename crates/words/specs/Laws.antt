@@ -1,11 +1,5 @@
--- Bit by bit, words are tests; and words closed under the rules of each level are the model of each set.
-pub mod Bits
-pub mod Grown
-pub mod Again
-pub mod Level
-pub mod Right
-pub mod Room
-pub mod Settled
+-- The words that are worked are those of the definition.
+pub mod Worked
 pub mod Wanted
 pub mod Known
 pub mod Alike

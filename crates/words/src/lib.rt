@@ -5,18 +5,14 @@ ghost use lib.ListN.{getD};
 ghost use Rattle.base.specs.Laws.Tables.{Tabled};
 ghost use Rattle.policy.specs.declared.Query.{Query};
 ghost use Rattle.policy.specs.Record.{ruleOf};
-ghost use Rattle.policy.specs.Laws.{InRange};
 ghost use Rattle.policy.specs.Questions.{Accepted};
 ghost use Rattle.columns.specs.Sets.{neededOf};
-ghost use Rattle.order.specs.Order.{Ordered, Used};
 ghost use Rattle.words.specs.Models.{modelOf, wordOf};
 ghost use Rattle.words.specs.Known.{Known};
-ghost use Rattle.words.specs.Right.{AreWords, Right, Enabling, Planned, Worked};
-use adding::add;
+ghost use Rattle.settle.specs.Right.{AreWords};
+ghost use Rattle.words.specs.Plan.{Planned, Worked};
 use policy::Policy;
 use policy::Query;
-
-mod adding;
 
 // What is in every world, what each action leads to by itself, and an order of the rules: those of level l stand at the places
 // from start[l] up to start[l + 1], and none before uses[d] asks for decision d as an if.
@@ -71,56 +67,6 @@ fn enabling(
     enabled
 }
 
-// The words once each of the first `count` levels is settled, from 0 up. A level is settled by passes over its rules. More are due
-// where a rule adds to a decision that a rule asks for at its own place or before it: first one back, from the last rule to the
-// first, since what runs against the order in a circle of rules runs with it then.
-fn levels(
-    policy: Policy,
-    order: &[u8; 256],
-    start: &[u16; 17],
-    uses: &[u16; 128],
-    enabled: &[u64; 256],
-    count: usize,
-) -> [u64; 128]
-    requires { ⌜ InRange policy ⌝ }
-    requires { ⌜ Ordered policy (now order) (now start) ⌝ }
-    requires { ⌜ Used policy (now order) (now uses) ⌝ }
-    requires { ⌜ AreWords 256 (now enabled) ⌝ }
-    requires { ⌜ count ≤ 16 ⌝ }
-    ensures { λ r. ⌜ ((q : Query) (w sets : ℕ) → Accepted policy q → Enabling policy q w sets (now (order .entry)) (now (enabled .entry))
-        → Right policy q w sets count r) ⌝ }
-{
-    let mut held = [0u64; 128];
-    for l in 0..count {
-        let from = start[l] as usize;
-        let to = start[l + 1] as usize;
-        'passes: loop {
-            let mut again = false;
-            for j in from..to {
-                let k = order[j] as usize;
-                let rule = policy.rule[k];
-                let more = add(rule, enabled[j], &mut held);
-                if more != 0 {
-                    let head = rule.head as usize;
-                    if uses[head] <= j as u16 {
-                        again = true;
-                    }
-                }
-            }
-            if !again {
-                break 'passes;
-            }
-            for n in from..to {
-                let j = to - 1 - (n - from);
-                let k = order[j] as usize;
-                let rule = policy.rule[k];
-                add(rule, enabled[j], &mut held);
-            }
-        }
-    }
-    held
-}
-
 // The words of the sets of w, right for the decisions of the first `count` levels.
 fn worked(policy: Policy, query: Query, plan: Plan, w: u16, count: usize) -> [u64; 128]
     requires { ⌜ Accepted policy query ⌝ }
@@ -139,7 +85,7 @@ fn worked(policy: Policy, query: Query, plan: Plan, w: u16, count: usize) -> [u6
     let enabled = enabling(policy, &fours, sets, &rules, policy.rules as usize);
     let start = plan.start;
     let uses = plan.uses;
-    levels(policy, &rules, &start, &uses, &enabled, count)
+    settle::levels(policy, &rules, &start, &uses, &enabled, count)
 }
 
 // For each decision the sets of the word w that clear it: bit i is the set 64 w + i.

@@ -19,7 +19,7 @@ use Rattle.policy.specs.Laws.{firstNo-zero, accepted, answers, answered-with, a
 use Rattle.columns.specs.Sets.{setAt}
 use Rattle.columns.specs.Laws.Columns.{none-set}
 use Rattle.words.specs.Models.{asking, bitOf, wordOf, modelOf}
-use Rattle.words.specs.Laws.Settled.{model-at}
+use Rattle.words.specs.Laws.Worked.{model-at}
 use Rattle.engine.specs.declared.WordModel.{WordModel}
 use Rattle.engine.specs.declared.Verdict.the-variants.{Judged}
 use Rattle.engine.specs.Sets.{costOf, Offered}

@@ -9,8 +9,8 @@ use Rattle.base.specs.Laws.Tables.{Tabled}
 use Rattle.columns.specs.Sets.{neededOf}
 use Rattle.base.proofs.Tabling.{tabled-none, tabled-more}
 use Rattle.columns.specs.Laws.Needed.{needed-lt}
-use Rattle.words.specs.Right.{AreWords}
-use Rattle.words.specs.Laws.Room.{are-words-none, are-words-set}
+use Rattle.settle.specs.Right.{AreWords}
+use Rattle.settle.specs.Laws.Room.{are-words-none, are-words-set}
 use Rattle.words.proofs.enabling.Statement.{statement}
 use Rattle.words.proofs.enabling.Tie as tie
 

@@ -1,6 +1,6 @@
 -- All levels are worked.
 use native.Mathlib.Omega.{arith}
-use Rattle.words.specs.Laws.Settled.{all-worked}
+use Rattle.words.specs.Laws.Worked.{all-worked}
 use Rattle.words.proofs.model.Statement.{statement}
 use Rattle.words.proofs.model.Tie as tie
 

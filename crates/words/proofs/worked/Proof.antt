@@ -3,7 +3,7 @@ use borrow.Author.Needs.{needs}
 use native.Mathlib.Omega.{arith}
 use mathlib.Core.Path.{refl, sym, _∙_}
 use Rattle.policy.specs.Laws.{accepted-range}
-use Rattle.words.specs.Laws.Settled.{enabling-given, none-worked, given-worked}
+use Rattle.words.specs.Laws.Worked.{enabling-given, none-worked, given-worked}
 use Rattle.words.proofs.worked.Statement.{statement}
 use Rattle.words.proofs.worked.Tie as tie
 

@@ -11,7 +11,7 @@ use Rattle.policy.specs.declared.Query.{Query}
 use Rattle.model.specs.Clears.{clears}
 use Rattle.columns.specs.Sets.{setAt}
 use Rattle.words.specs.Models.{asking, bitOf, wordOf, modelOf}
-use Rattle.words.specs.Laws.Settled.{model-at}
+use Rattle.words.specs.Laws.Worked.{model-at}
 
 module _ (p p′ : Policy) (q : Query) (w : ℕ) (decisions : p .decisions ≡ p′ .decisions) (actions : p .actions ≡ p′ .actions)
     (alike : (d s : ℕ) → d < p .decisions → clears p (asking q d) s ≡ clears p′ (asking q d) s) where

@@ -12,10 +12,10 @@ use Rattle.mask.specs.Laws.{has-none, ⊆-antisym}
 use Rattle.base.specs.Laws.Tests.{every-at, every-make}
 use Rattle.policy.specs.declared.Rule.{Rule}
 use Rattle.policy.specs.Record.{listed}
-use Rattle.words.specs.Words.{addedOf, grown}
-use Rattle.words.specs.Right.{bit}
-use Rattle.words.specs.Laws.Bits.{adds, adds-make}
-use Rattle.words.specs.Laws.Grown.{grown-still, grown-more}
+use Rattle.settle.specs.Words.{addedOf, grown}
+use Rattle.settle.specs.Right.{bit}
+use Rattle.settle.specs.Laws.Bits.{adds, adds-make}
+use Rattle.settle.specs.Laws.Grown.{grown-still, grown-more}
 
 module _ (held : List ℕ) (h more : ℕ) (small : h < length held) (enabled : ℕ) (r : Rule)
     (apart : (d : ℕ) → List·Memᴰ d (listed (r .ifs)) → d ≢ h) where

@@ -2,7 +2,7 @@
 ghost use mathlib.Core.Path.{_≡_};
 ghost use Rattle.policy.specs.Record.{listed};
 ghost use Rattle.policy.specs.Laws.{ListFits, RuleFits};
-ghost use Rattle.words.specs.Words.{allOf, noneOf, addedOf, grown};
+ghost use Rattle.settle.specs.Words.{allOf, noneOf, addedOf, grown};
 use policy::Decisions;
 use policy::Rule;
 

@@ -2,11 +2,11 @@
 use borrow.Author.Needs.{needs}
 use mathlib.Core.Path.{_≡_, sym, ap}
 use native.Mathlib.Omega.{arith}
-use Rattle.words.specs.Words.{addedOf, grown}
-use Rattle.words.specs.Laws.Bits.{added-none}
-use Rattle.words.specs.Laws.Grown.{grown-none}
-use Rattle.words.proofs.adding.add.Statement.{statement}
-use Rattle.words.proofs.adding.add.Tie as tie
+use Rattle.settle.specs.Words.{addedOf, grown}
+use Rattle.settle.specs.Laws.Bits.{added-none}
+use Rattle.settle.specs.Laws.Grown.{grown-none}
+use Rattle.settle.proofs.adding.add.Statement.{statement}
+use Rattle.settle.proofs.adding.add.Tie as tie
 
 -- an entry of eight bytes has an offset that fits
 mul-fresh : tie.Need-mul-fresh

@@ -16,13 +16,13 @@ use Rattle.policy.specs.Record.{ruleOf, headOf, ifsOf}
 use Rattle.policy.specs.Laws.{InRange, RuleFits, rule-wider}
 use Rattle.order.specs.Order.{Used}
 use Rattle.order.specs.Laws.{Hand}
-use Rattle.words.specs.Words.{addedOf}
-use Rattle.words.specs.Right.{AreWords, Right}
-use Rattle.words.specs.Laws.Right.{right-next}
-use Rattle.words.specs.Laws.Grown.{grown-none}
-use Rattle.words.specs.Laws.Again.{still-quiet, now-quiet}
-use Rattle.words.specs.Laws.Room.{total, next, next-words, total-kept, total-more}
-use Rattle.words.specs.Laws.Settled.{Part, Quiet}
+use Rattle.settle.specs.Words.{addedOf}
+use Rattle.settle.specs.Right.{AreWords, Right}
+use Rattle.settle.specs.Laws.Right.{right-next}
+use Rattle.settle.specs.Laws.Grown.{grown-none}
+use Rattle.settle.specs.Laws.Again.{still-quiet, now-quiet}
+use Rattle.settle.specs.Laws.Room.{total, next, next-words, total-kept, total-more}
+use Rattle.settle.specs.Laws.Settled.{Part, Quiet}
 
 -- work at the places of a level: whatever the sets are, words that were right before are right after
 pub record Works (p : Policy) (order : List ℕ) (from to : ℕ) (words before after : List ℕ) : Type 0 where

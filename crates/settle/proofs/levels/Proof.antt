@@ -11,14 +11,14 @@ use Rattle.policy.specs.Questions.{Accepted}
 use Rattle.policy.specs.Record.{ruleOf}
 use Rattle.policy.specs.Laws.{RuleFits}
 use Rattle.order.specs.Laws.{Hand, level-hand}
-use Rattle.words.specs.Right.{AreWords, Right, Enabling}
-use Rattle.words.specs.Laws.Right.{right-start}
-use Rattle.words.specs.Laws.Room.{total, total-bound, are-words-none}
-use Rattle.words.specs.Laws.Settled.{right-last, level-part, level-settled}
-use Rattle.words.proofs.Passing.{Works, works-none, works-more, any-index, any-small, any-rule, any-works, any-kept}
-use Rattle.words.proofs.Passing.{AtPlace, at-first, place-again, place-more, place-idle}
-use Rattle.words.proofs.levels.Statement.{statement}
-use Rattle.words.proofs.levels.Tie as tie
+use Rattle.settle.specs.Right.{AreWords, Right, Enabling}
+use Rattle.settle.specs.Laws.Right.{right-start}
+use Rattle.settle.specs.Laws.Room.{total, total-bound, are-words-none}
+use Rattle.settle.specs.Laws.Settled.{right-last, level-part, level-settled}
+use Rattle.settle.proofs.Passing.{Works, works-none, works-more, any-index, any-small, any-rule, any-works, any-kept}
+use Rattle.settle.proofs.Passing.{AtPlace, at-first, place-again, place-more, place-idle}
+use Rattle.settle.proofs.levels.Statement.{statement}
+use Rattle.settle.proofs.levels.Tie as tie
 
 abbrev Inv-loop2 : tie.InvT-loop2
 Inv-loop2 order start uses enabled count policy held₀ l from to again₀ j₀ held again j =

@@ -3,15 +3,15 @@ use Prim.Native.Nat.{_-_}
 use mathlib.Core.Path.{refl}
 use native.Mathlib.Omega.{arith}
 use borrow.Author.Needs.{needs}
-use Rattle.mask.specs.Laws.Packed.{minus}
-use Rattle.words.specs.Words.{folded}
+use lib.Bits.{bitAnd}
+use Rattle.settle.specs.Words.{folded}
 use Rattle.policy.specs.Laws.{list-entry}
-use Rattle.words.proofs.Folding.{So, so-next, so-all}
-use Rattle.words.proofs.adding.none_held.Statement.{statement}
-use Rattle.words.proofs.adding.none_held.Tie as tie
+use Rattle.settle.proofs.Folding.{So, so-next, so-all}
+use Rattle.settle.proofs.adding.all_held.Statement.{statement}
+use Rattle.settle.proofs.adding.all_held.Tie as tie
 
 abbrev Inv-loop : tie.InvT-loop
-Inv-loop held sets count at word₀ i₀ word i = So minus held sets at count word i
+Inv-loop held sets count at word₀ i₀ word i = So bitAnd held sets at count word i
 
 abbrev μ-loop : tie.MeasureT-loop
 μ-loop held sets count at word₀ i₀ word i = count - i
@@ -33,13 +33,13 @@ element-copy-out-word c =
     list-entry (c .before .before .before .before .pre) _ (c .loop-test .taken) (omega (arith, so .long, so .few))
 
 loop-again : tie.Need-loop-again Inv-loop μ-loop
-loop-again c = so-next minus (c .before .before .loop .inv) (c .before .loop-test .taken)
+loop-again c = so-next bitAnd (c .before .before .loop .inv) (c .before .loop-test .taken)
 
 returns : tie.Need-returns Inv-loop μ-loop
-returns c = so-all minus (c .before .loop .inv) (omega (arith, c .loop-test .left))
+returns c = so-all bitAnd (c .before .loop .inv) (omega (arith, c .loop-test .left))
 
-pub none-held-spec : {M : Type 1} → statement M
-none-held-spec =
+pub all-held-spec : {M : Type 1} → statement M
+all-held-spec =
     tie.close
     (tie.spec
     Inv-loop μ-loop (λ c. search needs) loop-holds (λ c. search needs) (λ c. search needs) mul-word element-copy-out-word

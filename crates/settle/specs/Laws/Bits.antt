@@ -13,8 +13,8 @@ use Rattle.mask.specs.Laws.Packed.{minus, has-minus}
 use Rattle.base.specs.Laws.Tests.{and-make, and-left, and-right}
 use Rattle.policy.specs.declared.Rule.{Rule}
 use Rattle.policy.specs.Record.{listed}
-use Rattle.words.specs.Words.{folded, allOf, noneOf, addedOf}
-use Rattle.words.specs.Right.{bit}
+use Rattle.settle.specs.Words.{folded, allOf, noneOf, addedOf}
+use Rattle.settle.specs.Right.{bit}
 
 module _ (held : List ℕ) (i : ℕ) where
   -- an operation that keeps a set where the word says g

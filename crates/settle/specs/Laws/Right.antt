@@ -17,11 +17,11 @@ use Rattle.policy.specs.Record.{ruleOf, headOf, ifsOf, unlessOf, levelOf}
 use Rattle.model.specs.World.{enabled}
 use Rattle.model.specs.Derivation.{Derivable}
 use Rattle.model.specs.Laws.Strata.{stratified}
-use Rattle.words.specs.Words.{addedOf, grown}
-use Rattle.words.specs.Right.{bit, worldAt, Right, Enables}
-use Rattle.words.specs.Laws.Bits.{adds, adds-make}
-use Rattle.words.specs.Laws.Grown.{grown-still, grown-only}
-use Rattle.words.specs.Laws.Level.{Ready, step, settled}
+use Rattle.settle.specs.Words.{addedOf, grown}
+use Rattle.settle.specs.Right.{bit, worldAt, Right, Enables}
+use Rattle.settle.specs.Laws.Bits.{adds, adds-make}
+use Rattle.settle.specs.Laws.Grown.{grown-still, grown-only}
+use Rattle.settle.specs.Laws.Level.{Ready, step, settled}
 
 module _ (p : Policy) (q : Query) (ok : Accepted p q) (w sets : ℕ) where
   -- at first nothing is held

@@ -16,7 +16,7 @@ use Rattle.model.specs.World.{Enabled}
 use Rattle.model.specs.Derivation.{Derivable}
 use Rattle.model.specs.Laws.Strata.{stratified}
 use Rattle.model.specs.Laws.Model.{is-model}
-use Rattle.words.specs.Right.{Sound, Complete}
+use Rattle.settle.specs.Right.{Sound, Complete}
 
 module _ (p : Policy) (w : ℕ) where
   -- rule k of level n asks for no more than the marks give

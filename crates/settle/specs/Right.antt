@@ -7,15 +7,12 @@ use mathlib.Core.Path.{_≡_}
 use lib.Dec.{T}
 use lib.ListN.{length, getD}
 use Rattle.mask.specs.Mask.{has}
-use Rattle.base.specs.Lists.{table}
 use Rattle.policy.specs.declared.Policy.{Policy}
 use Rattle.policy.specs.declared.Query.{Query}
 use Rattle.policy.specs.Record.{ruleOf, levelOf}
-use Rattle.model.specs.World.{enabled, worldOf, worldIn}
+use Rattle.model.specs.World.{enabled, worldOf}
 use Rattle.model.specs.Derivation.{Derivable}
 use Rattle.columns.specs.Sets.{setAt}
-use Rattle.order.specs.Order.{Ordered, Used}
-use Rattle.words.specs.Models.{wordOf}
 
 -- decision d is held in the i-th set
 abbrev pub bit : List ℕ → ℕ → ℕ → Bool
@@ -54,15 +51,3 @@ module _ (p : Policy) (q : Query) (w sets : ℕ) where
   -- each place of the order has the word of the sets that enable its rule
   pub record Enabling (order words : List ℕ) : Type 0 where
     pub each : (j : ℕ) → j < p .rules → Enables (getD order j 0) (getD words j 0)
-
--- the words of the decisions of the first n levels are those of the definition, and words past the decision count too
-pub record Worked (p : Policy) (q : Query) (w n : ℕ) (held : List ℕ) : Type 0 where
-  pub size : length held ≡ 128
-  pub words : (d : ℕ) → (d < p .decisions → levelOf p d < n) → getD held d 0 ≡ wordOf p q w d
-
--- what the words of a query are worked from: what is in every world, what each action leads to by itself, an order of the rules
-pub record Planned (p : Policy) (q : Query) (base : ℕ) (leads order start uses : List ℕ) : Type 0 where
-  pub based : base ≡ worldIn (p .action) (p .actions) (q .done) 0
-  pub led : leads ≡ table 16 (λ a. worldIn (p .action) (p .actions) 0 (2 ^ a))
-  pub ordered : Ordered p order start
-  pub used : Used p order uses

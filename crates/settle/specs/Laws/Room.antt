@@ -13,9 +13,9 @@ use Rattle.mask.specs.Mask.{has}
 use Rattle.mask.specs.Laws.{disjoint-iff}
 use Rattle.base.specs.Laws.Tests.{getD-filled}
 use Rattle.policy.specs.declared.Rule.{Rule}
-use Rattle.words.specs.Words.{addedOf, grown}
-use Rattle.words.specs.Right.{AreWords}
-use Rattle.words.specs.Laws.Bits.{adds, added-lt}
+use Rattle.settle.specs.Words.{addedOf, grown}
+use Rattle.settle.specs.Right.{AreWords}
+use Rattle.settle.specs.Laws.Bits.{adds, added-lt}
 
 unfoldable pub total : List ℕ → ℕ
 total [] = 0

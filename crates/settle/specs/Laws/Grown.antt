@@ -11,8 +11,8 @@ use lib.Seq.{getD-set-same, getD-set-other, set-getD}
 use Rattle.mask.specs.Mask.{has}
 use Rattle.mask.specs.Laws.{has-or}
 use Rattle.base.specs.Laws.Tests.{or-left, or-right, or-cases}
-use Rattle.words.specs.Words.{grown}
-use Rattle.words.specs.Right.{bit}
+use Rattle.settle.specs.Words.{grown}
+use Rattle.settle.specs.Right.{bit}
 
 -- none are added
 pub grown-none : (held : List ℕ) (h more : ℕ) → more ≡ 0 → grown held h more ≡ held
