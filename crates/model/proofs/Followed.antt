@@ -20,7 +20,7 @@ none-followed e = record { within = zero-le; so-far = e }
 
 module _ {action : List Action} {m n world k : ℕ} (f : Following action m n world k) where
   -- one step more
-  pub more-followed : {next : ℕ} → k < n → next ≡ bitOr world (alsoes action world n) → Following action m n next (k + 1)
+  pub more-followed : {next : ℕ} → k < n → next ≡ bitOr world (alsoes action n world) → Following action m n next (k + 1)
   unfolding followed
   more-followed h e = record { within = omega arith; so-far = rw add-one (e ∙ rw (f .so-far)) }
 
@@ -31,6 +31,6 @@ module _ {action : List Action} {m n world k : ℕ} (f : Following action m n wo
       f .so-far ∙ rw last
 
   -- a step adds nothing, and so no later one does
-  pub ended : world ≡ bitOr world (alsoes action world n) → world ≡ followed action n m n
+  pub ended : world ≡ bitOr world (alsoes action n world) → world ≡ followed action n m n
   unfolding followed
   ended e = le-ind (λ (j : ℕ). world ≡ followed action n m j) (f .so-far) (λ j h same. e ∙ rw (← same)) n (f .within)

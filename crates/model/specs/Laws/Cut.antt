@@ -23,7 +23,7 @@ fits-cut held w r = rw (listed-cut (r .ifs), listed-cut (r .unless))
 
 -- the worlds
 module _ (p : Policy) where
-  alsoes-cut : (m n : ℕ) → n ≤ p .actions → alsoes (cut p .action) m n ≡ alsoes (p .action) m n
+  alsoes-cut : (m n : ℕ) → n ≤ p .actions → alsoes (cut p .action) n m ≡ alsoes (p .action) n m
   unfolding alsoes
   alsoes-cut m zero h = refl
   alsoes-cut m (suc n) h = rw (alsoes-cut m n (omega arith), also-cut p n h)

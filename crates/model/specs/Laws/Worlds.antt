@@ -38,18 +38,18 @@ module _ (p : Policy) (m i : ℕ) where
   abbrev Also : ℕ → Type 0
   Also n = (a : ℕ) × (a < n) × T (has m a) × T (has (alsoOf p a) i)
 
-  alsoes-at : (n : ℕ) → T (has (alsoes (p .action) m n) i) → Also n
+  alsoes-at : (n : ℕ) → T (has (alsoes (p .action) n m) i) → Also n
   unfolding alsoes
   alsoes-at zero t = absurd (has-none i t)
   alsoes-at (suc n) t = ⊎-elim {C = Also (suc n)}
-      (λ (t : T (has (alsoes (p .action) m n) i)). let r = alsoes-at n t in (r .0, below-suc (r .1), r .2, r .3))
+      (λ (t : T (has (alsoes (p .action) n m) i)). let r = alsoes-at n t in (r .0, below-suc (r .1), r .2, r .3))
       (λ (t : T (has (cond (has m n) (alsoOf p n) 0) i)). let r = cond-at (has m n) (alsoOf p n) i t in (n, le-refl (suc n), r .0, r .1))
-      (join-iff (alsoes (p .action) m n) (cond (has m n) (alsoOf p n) 0) i .0 t)
+      (join-iff (alsoes (p .action) n m) (cond (has m n) (alsoOf p n) 0) i .0 t)
 
-  alsoes-make : (n : ℕ) → Also n → T (has (alsoes (p .action) m n) i)
+  alsoes-make : (n : ℕ) → Also n → T (has (alsoes (p .action) n m) i)
   unfolding alsoes
   alsoes-make zero (a, h, s, t) = absurd (not-suc-le-zero h)
-  alsoes-make (suc n) (a, h, s, t) = join-iff (alsoes (p .action) m n) (cond (has m n) (alsoOf p n) 0) i .1 (⊎-elim
+  alsoes-make (suc n) (a, h, s, t) = join-iff (alsoes (p .action) n m) (cond (has m n) (alsoOf p n) 0) i .1 (⊎-elim
       (λ (e : a ≡ n). inr (rw e at (cond-make (has m a) (alsoOf p a) i s t)))
       (λ (l : a < n). inl (alsoes-make n (a, l, s, t))) (last-or-below h))
 
@@ -59,7 +59,7 @@ module _ (p : Policy) {From : ℕ → Type 0} (m : ℕ) (is : (i : ℕ) → T (h
   after = followed (p .action) (p .actions) m
 
   abbrev more : ℕ → ℕ
-  more k = alsoes (p .action) (after k) (p .actions)
+  more k = alsoes (p .action) (p .actions) (after k)
 
   -- it holds actions that are reached from the set
   after-reached : (k i : ℕ) → T (has (after k) i) → Reached p From i

@@ -39,7 +39,7 @@ module _ (action : List Action) (alone : (a : ℕ) → getD action a noAction .a
   nothing true = refl
   nothing false = refl
 
-  alsoes-none : (m n : ℕ) → alsoes action m n ≡ 0
+  alsoes-none : (m n : ℕ) → alsoes action n m ≡ 0
   unfolding alsoes
   alsoes-none m zero = refl
   alsoes-none m (suc n) = rw (alsoes-none m n, alone n, nothing (has m n))
