@@ -3,9 +3,9 @@ use Prim.Native.Nat.{ℕ}
 use mathlib.Core.List.{List}
 use mathlib.Core.Path.{_≡_, refl, sym, _∙_}
 use lib.ListN.{take}
-use Rattle.engine.specs.declared.Levelling.{Levelling}
+use Rattle.strata.specs.declared.Levelling.{Levelling}
 use Rattle.engine.specs.Calls.{refusedOr}
-use Rattle.engine.specs.Levels.{foundLevels}
+use Rattle.strata.specs.Levels.{foundLevels}
 use Rattle.engine.specs.Laws.Refusals.{answered, refused}
 use Rattle.reader.specs.declared.Reading.{Reading}
 use Rattle.reader.specs.File.{draftOf}

@@ -4,7 +4,7 @@ use mathlib.Core.List.{List}
 use lib.ListN.{take}
 use Rattle.policy.specs.declared.Policy.{Policy}
 use Rattle.engine.specs.Calls.{refusedOr}
-use Rattle.engine.specs.Levels.{foundLevels}
+use Rattle.strata.specs.Levels.{foundLevels}
 use Rattle.reader.specs.Written.{each, levelText}
 use Rattle.reader.specs.File.{draftOf}
 use Rattle.text.specs.Put.{refusedText}

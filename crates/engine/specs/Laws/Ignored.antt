@@ -21,8 +21,8 @@ use Rattle.engine.specs.Calls.{checkOf, judgeOf, fireOf, chooseOf, listO
 use Rattle.words.specs.Models.{asking}
 use Rattle.words.specs.Laws.Alike.{model-alike}
 use Rattle.engine.specs.Words.{wordQuestions, wordsOf}
-use Rattle.engine.specs.Levels.{asked, raised, lowest, levelQuestions, foundLevels}
-use Rattle.engine.specs.Laws.Levels.{rounds-same}
+use Rattle.strata.specs.Levels.{asked, raised, lowest, levelQuestions, foundLevels}
+use Rattle.strata.specs.Laws.Levels.{rounds-same}
 use Rattle.engine.specs.Laws.Alike.{refused-same, slim-sets-alike, answer-alike}
 use Rattle.engine.specs.Laws.Refusals.{offer-accepted, list-accepted}
 

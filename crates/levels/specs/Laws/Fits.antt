@@ -7,8 +7,8 @@ use native.Mathlib.Omega.{arith}
 use lib.ListN.{length, take, length-take}
 use Rattle.policy.specs.declared.Policy.{Policy}
 use Rattle.engine.specs.Calls.{refusedOr}
-use Rattle.engine.specs.Levels.{foundLevels}
-use Rattle.engine.specs.Laws.Levels.{finds-levels}
+use Rattle.strata.specs.Levels.{foundLevels}
+use Rattle.strata.specs.Laws.Levels.{finds-levels}
 use Rattle.engine.specs.Laws.Refusals.{answered, refused}
 use Rattle.reader.specs.Written.{levelText, each}
 use Rattle.reader.specs.File.{draftOf}

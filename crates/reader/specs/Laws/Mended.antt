@@ -7,9 +7,9 @@ use mathlib.Core.Path.{_≡_}
 use Rattle.base.specs.Laws.Tests.{is-true}
 use Rattle.policy.specs.Record.{withLevels}
 use Rattle.policy.specs.Questions.{weightsFit}
-use Rattle.engine.specs.declared.Levelling.{Levelling}
-use Rattle.engine.specs.Levels.{foundLevels}
-use Rattle.engine.specs.Laws.Levels.{finds-levels}
+use Rattle.strata.specs.declared.Levelling.{Levelling}
+use Rattle.strata.specs.Levels.{foundLevels}
+use Rattle.strata.specs.Laws.Levels.{finds-levels}
 use Rattle.engine.specs.Laws.Levelled.{SameAnswers, found-for, found-alike}
 use Rattle.reader.specs.declared.Reading.{Reading}
 use Rattle.reader.specs.Written.{fileOf}

@@ -6,10 +6,10 @@ use native.Mathlib.Omega.{arith}
 use borrow.Author.Needs.{needs}
 use lib.ListN.{getD}
 use Rattle.policy.specs.Laws.{list-entry}
-use Rattle.engine.specs.Levels.{above}
-use Rattle.engine.proofs.Rounds.{Over, over-raised, over-kept, over-all}
-use Rattle.engine.proofs.raising.above.Statement.{statement}
-use Rattle.engine.proofs.raising.above.Tie as tie
+use Rattle.strata.specs.Levels.{above}
+use Rattle.strata.proofs.Rounds.{Over, over-raised, over-kept, over-all}
+use Rattle.strata.proofs.raising.above.Statement.{statement}
+use Rattle.strata.proofs.raising.above.Tie as tie
 
 abbrev Inv-loop : tie.InvT-loop
 Inv-loop level step own count at lowest₀ i₀ lowest i = Over level step own at count lowest i

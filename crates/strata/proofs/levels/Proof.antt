@@ -1,11 +1,17 @@
 -- `levels` is refused by question 3 or 4, or finds the lowest levels.
-use mathlib.Core.Path.{sym, _∙_}
+use mathlib.Core.Path.{_≡_, sym, _∙_, subst}
 use borrow.Author.Needs.{needs}
 use Rattle.base.proofs.Tested.{tested-no, tested-yes}
-use Rattle.engine.specs.Laws.Levels.{found-three, found-four}
-use Rattle.engine.proofs.Answers.{levels-found}
-use Rattle.engine.proofs.levels.Statement.{statement}
-use Rattle.engine.proofs.levels.Tie as tie
+use Rattle.policy.specs.declared.Policy.{Policy}
+use Rattle.strata.specs.declared.Levelling.{Levelling}
+use Rattle.strata.specs.Levels.{foundLevels, FindsLevels}
+use Rattle.strata.specs.Laws.Levels.{found-three, found-four, finds-levels}
+use Rattle.strata.proofs.levels.Statement.{statement}
+use Rattle.strata.proofs.levels.Tie as tie
+
+-- what equals the definition means what that means
+levels-found : (p : Policy) {r : Levelling} → r ≡ foundLevels p → (r ≡ foundLevels p) × FindsLevels p r
+levels-found p e = (e, subst (FindsLevels p) (sym e) (finds-levels p))
 
 returns : tie.Need-returns
 returns c = levels-found _ (c .refused .ensures ∙ sym (found-three _

@@ -12,11 +12,11 @@ use Rattle.policy.specs.declared.Policy.{Policy}
 use Rattle.policy.specs.Record.{ruleOf, headOf, withLevels}
 use Rattle.policy.specs.Questions.{othersInRange, listsRise}
 use Rattle.policy.specs.Laws.{InRange}
-use Rattle.engine.specs.Levels.{above, asked, small, lowest, refusedLevels, foundLevels}
-use Rattle.engine.specs.Laws.Raised.{above-more, total, total-small, EachSmall, Reached, Since, raise, reached-none}
-use Rattle.engine.specs.Laws.Raised.{asked-below, reached-raise, raise-small, since-raised, since-kept}
-use Rattle.engine.specs.Laws.Levels.{small-each, each-small, met-fits, reached-lowest, lowest-fits, lowest-only, others-range}
-use Rattle.engine.specs.Laws.Levels.{found-nine, found-lowest}
+use Rattle.strata.specs.Levels.{above, asked, small, lowest, refusedLevels, foundLevels}
+use Rattle.strata.specs.Laws.Raised.{above-more, total, total-small, EachSmall, Reached, Since, raise, reached-none}
+use Rattle.strata.specs.Laws.Raised.{asked-below, reached-raise, raise-small, since-raised, since-kept}
+use Rattle.strata.specs.Laws.Levels.{small-each, each-small, met-fits, reached-lowest, lowest-fits, lowest-only, others-range}
+use Rattle.strata.specs.Laws.Levels.{found-nine, found-lowest}
 
 -- `lowest` lies above the levels of the first i decisions of a list
 pub record Over (level : List ℕ) (step own : ℕ) (at : List ℕ) (count lowest i : ℕ) : Type 0 where

@@ -8,8 +8,8 @@ use Rattle.policy.specs.Questions.{listsRise, ruleRises, rises, levelsFit, rule
 use Rattle.policy.specs.declared.Policy.{Policy}
 use Rattle.policy.specs.Record.{noDecisions}
 use Rattle.policy.specs.Cases.{sample}
-use Rattle.engine.specs.Calls.{refusedOr}
-use Rattle.engine.specs.Levels.{above, asked, raised, rounds, lowest, levelQuestions, refusedLevels, foundLevels}
+use Rattle.policy.specs.Questions.{refusedOr}
+use Rattle.strata.specs.Levels.{above, asked, raised, rounds, lowest, levelQuestions, refusedLevels, foundLevels}
 
 pub found : foundLevels sample ≡ record { refusal = 0; level = 1 ∷ replicate 127 0 }
 unfolding sample every firstNo othersInRange countsInRange levelInRange actionInRange ruleInRange listInRange listsRise ruleRises rises

@@ -1,8 +1,8 @@
 -- `asked` meets its contract: the if decisions are looked at first, then the unless decisions.
 use borrow.Author.Needs.{needs}
-use Rattle.engine.specs.Levels.{asked}
-use Rattle.engine.proofs.raising.asked.Statement.{statement}
-use Rattle.engine.proofs.raising.asked.Tie as tie
+use Rattle.strata.specs.Levels.{asked}
+use Rattle.strata.proofs.raising.asked.Statement.{statement}
+use Rattle.strata.proofs.raising.asked.Tie as tie
 
 above-requires : tie.Need-above-requires
 above-requires c κs = search needs

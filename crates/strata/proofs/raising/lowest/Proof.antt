@@ -8,12 +8,12 @@ use Rattle.base.specs.Laws.Tests.{passes}
 use Rattle.policy.specs.Record.{ruleOf, withLevels}
 use Rattle.policy.specs.Questions.{othersInRange}
 use Rattle.policy.specs.Laws.{RuleFits, rule-wider, InRange}
-use Rattle.engine.specs.Laws.Raised.{total}
-use Rattle.engine.specs.Laws.Levels.{others-range}
-use Rattle.engine.proofs.Rounds.{AtRound, AtTurn, round-first, turn-first, turn-raised, turn-kept, turn-refused}
-use Rattle.engine.proofs.Rounds.{fewer-rounds, rounds-end}
-use Rattle.engine.proofs.raising.lowest.Statement.{statement}
-use Rattle.engine.proofs.raising.lowest.Tie as tie
+use Rattle.strata.specs.Laws.Raised.{total}
+use Rattle.strata.specs.Laws.Levels.{others-range}
+use Rattle.strata.proofs.Rounds.{AtRound, AtTurn, round-first, turn-first, turn-raised, turn-kept, turn-refused}
+use Rattle.strata.proofs.Rounds.{fewer-rounds, rounds-end}
+use Rattle.strata.proofs.raising.lowest.Statement.{statement}
+use Rattle.strata.proofs.raising.lowest.Tie as tie
 
 abbrev Inv-loop : tie.InvT-loop
 Inv-loop policy level₀ rules raised₀ k₀ level raised k = AtTurn policy level₀ k level raised

@@ -16,7 +16,7 @@ use Rattle.policy.specs.declared.Rule.{Rule}
 use Rattle.policy.specs.Record.{listed, ruleOf, headOf, withLevels}
 use Rattle.policy.specs.Questions.{levelsBelow, ruleLevelsFit}
 use Rattle.policy.specs.Laws.{InRange, levels-fit}
-use Rattle.engine.specs.Levels.{above, asked, fits, raised}
+use Rattle.strata.specs.Levels.{above, asked, fits, raised}
 
 module _ (level : List ℕ) (step : ℕ) where
   -- it is no lower than the level that it starts from
