@@ -14,7 +14,8 @@ use Rattle.engine.specs.declared.Answer.{Answer}
 use Rattle.engine.specs.declared.Answer.the-variants.{Refused as choose-refused, None, Chosen}
 use Rattle.engine.specs.declared.Listing.{Listing}
 use Rattle.engine.specs.declared.Listing.the-variants.{Refused as list-refused, Listed}
-use Rattle.engine.specs.Sets.{costOf, Enough, Best, BestKeep, Lists}
+use Rattle.engine.specs.Sets.{Enough, Best, BestKeep, Lists}
+use Rattle.weight.specs.Cost.{costOf}
 use Rattle.engine.specs.Calls.{offerQuestions, listQuestions, slimSets}
 
 -- n is the number of the first question answered no

@@ -14,7 +14,8 @@ use Rattle.columns.specs.Sets.{setAt}
 use Rattle.words.specs.Models.{asking, modelOf}
 use Rattle.engine.specs.declared.WordModel.{WordModel}
 use Rattle.engine.specs.declared.Verdict.the-variants.{Judged}
-use Rattle.engine.specs.Sets.{costOf, Offered, Enough}
+use Rattle.engine.specs.Sets.{Offered, Enough}
+use Rattle.weight.specs.Cost.{costOf}
 use Rattle.engine.specs.Calls.{refusedOr, judgeOf}
 use Rattle.engine.specs.Meaning.{Refuses}
 

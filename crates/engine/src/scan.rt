@@ -5,7 +5,7 @@ ghost use Prim.Native.Nat.{_-_, _<_};
 ghost use lib.ListN.{length, replicate};
 ghost use Rattle.policy.specs.Record.{listed};
 ghost use Rattle.policy.specs.Laws.{ListFits, RuleFits, InRange};
-ghost use Rattle.model.specs.Fire.{allHeld, noneHeld, fits, firedOf};
+ghost use Rattle.model.specs.Fire.{allHeld, noneHeld, canFire, firedOf};
 use policy::Decisions;
 use policy::Policy;
 use policy::Rule;
@@ -51,7 +51,7 @@ fn none_held(held: &[bool; 128], list: Decisions) -> bool
 // The rule can fire: its head is not held yet, and the world and the marks are as it asks.
 fn fires(rule: Rule, held: &[bool; 128], world: u16) -> bool
     requires { ⌜ RuleFits 128 16 rule ⌝ }
-    ensures { λ r. ⌜ r ≡ fits (now (held .entry)) world rule ⌝ }
+    ensures { λ r. ⌜ r ≡ canFire (now (held .entry)) world rule ⌝ }
 {
     let head = rule.head as usize;
     let ifs = rule.ifs;

@@ -7,6 +7,7 @@ use native.Mathlib.Nat.{mul-le-mul-right, mul-assoc, suc-mul, zero-mul, pow-suc}
 use native.Mathlib.Omega.{arith}
 use lib.Count.{ones, ones-cat, trailingZeros, under}
 use lib.Pow.{pow-pos, pow-mono, pow-add}
+use Rattle.mask.specs.Laws.Ones.{ones-zero}
 
 -- n is a multiple of 2 ^ j
 abbrev Multiple : ℕ → ℕ → Type 0
@@ -26,10 +27,6 @@ multiple (suc k) n = case (n % 2) refl (multiple k (n / 2))
     case : (d : ℕ) → n % 2 ≡ d → Multiple (n / 2) (trailingZeros k (n / 2)) → Multiple n (under d (trailingZeros k (n / 2)))
     case zero e half = double n (trailingZeros k (n / 2)) e half
     case (suc d) e half = (n, omega arith)
-
-ones-zero : ones 0 ≡ 0
-unfolding ones
-ones-zero = refl
 
 module _ (s j : ℕ) (whole : Multiple s j) where
   -- they have no fewer actions

@@ -12,7 +12,7 @@ use Rattle.policy.specs.Laws.{accepted-range}
 use Rattle.engine.specs.declared.Answer.{Answer}
 use Rattle.engine.specs.declared.Answer.the-variants.{Refused as choose-refused, None, Chosen}
 use Rattle.engine.specs.Calls.{slim, slimSets, best, answer, chooseOf, fireOf}
-use Rattle.engine.specs.Laws.Among.{among-at}
+use Rattle.mask.specs.Laws.Among.{among-at}
 use Rattle.engine.specs.Laws.Few.{few-slim, fire-places}
 use Rattle.engine.specs.Laws.Refusals.{refused}
 use Rattle.reader.specs.Text.{decimal}

@@ -6,14 +6,10 @@ use lib.Dec.{T}
 use Rattle.mask.specs.Mask.{has}
 use Rattle.mask.specs.Laws.{has-none, one-has, one-is}
 use Rattle.policy.specs.declared.Policy.{Policy}
-use Rattle.model.specs.World.{Reached, start, follow, InWorld}
+use Rattle.model.specs.World.{start, follow, InWorld}
+use Rattle.model.specs.Laws.Worlds.{reached-more}
 
 module _ (p : Policy) where
-  -- what is reached from a set is reached from a larger one
-  wider : {F G : ℕ → Type 0} → ((a : ℕ) → F a → G a) → {i : ℕ} → Reached p F i → Reached p G i
-  wider f (start t) = start (f _ t)
-  wider f (follow r h t) = follow (wider f r) h t
-
   module _ (done s : ℕ) where
     -- one of the actions of s leads to it
     abbrev pub By : ℕ → Type 0
@@ -26,7 +22,7 @@ module _ (p : Policy) where
         (λ (x : InWorld p done 0 b). inl (follow x h t)) (λ (x : By b). inr (x .0, x .1, follow (x .2) h t)) (spread b r)
 
     pub gather : (i : ℕ) → InWorld p done 0 i ⊎ By i → InWorld p done s i
-    gather i (inl r) = wider (λ a x. ⊎-elim {C = T (has done a) ⊎ T (has s a)} (λ (t : T (has done a)). inl t)
+    gather i (inl r) = reached-more (λ a x. ⊎-elim {C = T (has done a) ⊎ T (has s a)} (λ (t : T (has done a)). inl t)
         (λ (t : T (has 0 a)). absurd (has-none a t)) x) r
-    gather i (inr (a, t, r)) = wider (λ b x. ⊎-elim {C = T (has done b) ⊎ T (has s b)} (λ (u : T (has 0 b)). absurd (has-none b u))
+    gather i (inr (a, t, r)) = reached-more (λ b x. ⊎-elim {C = T (has done b) ⊎ T (has s b)} (λ (u : T (has 0 b)). absurd (has-none b u))
         (λ (u : T (has (2 ^ a) b)). inr (subst (λ (c : ℕ). T (has s c)) (sym (one-is a b u)) t)) x) r

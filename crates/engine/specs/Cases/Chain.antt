@@ -12,8 +12,9 @@ use Rattle.policy.specs.Questions.{actionInRange, ruleInRange, listInRange, lis
 use Rattle.policy.specs.Questions.{levelsBelow, weightsFit, outweighs, heavier, Accepted}
 use Rattle.policy.specs.Cases.{chain, ask}
 use Rattle.model.specs.World.{worldOf, worldIn, followed, alsoes, InWorld, start, follow, steps}
-use Rattle.model.specs.Fire.{firedOf, fits, fires, tried, pass, passes, upTo}
-use Rattle.engine.specs.Sets.{costOf, weighed, Enough, Slim, Best}
+use Rattle.model.specs.Fire.{firedOf, canFire, fires, tried, pass, passes, upTo}
+use Rattle.engine.specs.Sets.{Enough, Slim, Best}
+use Rattle.weight.specs.Cost.{costOf, weighed}
 use Rattle.mask.specs.Family.{takenWithin, minimal, lightest, lighter}
 use Rattle.engine.specs.Calls.{best, clears, enough, firedFor, slim}
 use Rattle.engine.specs.Laws.Decide.{best-found}
@@ -32,7 +33,7 @@ record Tested : Type 0 where
 tested : Tested
 unfolding chain every everyBelow someBelow firstNo questions queryInRange inRange othersInRange countsInRange levelInRange actionInRange
     ruleInRange listInRange listsRise ruleRises rises levelsFit ruleLevelsFit levelsBelow weightsFit outweighs heavier Accepted
-    worldOf worldIn followed alsoes firedOf fits fires tried pass passes upTo costOf weighed takenWithin minimal lightest lighter
+    worldOf worldIn followed alsoes firedOf canFire fires tried pass passes upTo costOf weighed takenWithin minimal lightest lighter
     best clears enough firedFor slim
 tested = record {
   accepted = refl;
@@ -61,7 +62,7 @@ pub record MarkedChain : Type 0 where
   pub done : Enough chain (ask 0 1) 0
 
 pub marked-chain : MarkedChain
-unfolding chain every worldOf worldIn followed alsoes firedOf fits fires tried pass passes upTo costOf weighed firedFor steps
+unfolding chain every worldOf worldIn followed alsoes firedOf canFire fires tried pass passes upTo costOf weighed firedFor steps
 marked-chain = record {
   reached = (follow {a = 1} (follow {a = 0} (start (inr tt)) (lit< tt) tt) (lit< tt) tt, refl);
   one-step = refl;

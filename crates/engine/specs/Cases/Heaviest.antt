@@ -9,8 +9,9 @@ use Rattle.policy.specs.Questions.{actionInRange, ruleInRange, listInRange, lis
 use Rattle.policy.specs.Questions.{levelsBelow, weightsFit, outweighs, heavier, Accepted}
 use Rattle.policy.specs.Cases.{heaviest, ask}
 use Rattle.model.specs.World.{worldOf, worldIn, followed, alsoes}
-use Rattle.model.specs.Fire.{firedOf, fits, fires, tried, pass, passes, upTo}
-use Rattle.engine.specs.Sets.{costOf, weighed, Enough}
+use Rattle.model.specs.Fire.{firedOf, canFire, fires, tried, pass, passes, upTo}
+use Rattle.engine.specs.Sets.{Enough}
+use Rattle.weight.specs.Cost.{costOf, weighed}
 use Rattle.engine.specs.Calls.{clears, enough, firedFor}
 use Rattle.engine.specs.Cases.Decided.{is-enough}
 
@@ -20,7 +21,7 @@ unfolding heaviest every everyBelow firstNo questions queryInRange inRange other
 accepted = refl
 
 tested : enough heaviest (ask 0 0) 65535 ≡ true
-unfolding heaviest every worldOf worldIn followed alsoes firedOf fits fires tried pass passes upTo clears enough firedFor
+unfolding heaviest every worldOf worldIn followed alsoes firedOf canFire fires tried pass passes upTo clears enough firedFor
 tested = refl
 
 pub record MarkedHeaviest : Type 0 where

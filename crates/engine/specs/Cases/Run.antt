@@ -10,10 +10,10 @@ use Rattle.policy.specs.Questions.{actionInRange, ruleInRange, listInRange, lis
 use Rattle.policy.specs.Questions.{levelsBelow, weightsFit, outweighs, heavier, Accepted}
 use Rattle.policy.specs.Cases.{sample, ask}
 use Rattle.model.specs.World.{worldOf, worldIn, followed, alsoes}
-use Rattle.model.specs.Fire.{firedOf, fits, fires, tried, pass, passes, upTo}
+use Rattle.model.specs.Fire.{firedOf, canFire, fires, tried, pass, passes, upTo}
 use Rattle.keep.specs.Keep.{foundOr0, spoilt, keepsOff, keepOf}
 use Rattle.engine.specs.declared.Answer.the-variants.{None, Chosen}
-use Rattle.engine.specs.Sets.{costOf, weighed}
+use Rattle.weight.specs.Cost.{costOf, weighed}
 use Rattle.mask.specs.Family.{among, takenWithin, minimal, lightest, lighter}
 use Rattle.engine.specs.Calls.{chooseOf, answer, refusedOr, best, clears, enough, firedFor, slimSets, slim, keepFor}
 
@@ -30,7 +30,7 @@ pub record Run : Type 0 where
 pub run : Run
 unfolding sample every everyBelow someBelow firstNo questions queryInRange inRange othersInRange countsInRange levelInRange actionInRange
     ruleInRange listInRange listsRise ruleRises rises levelsFit ruleLevelsFit levelsBelow weightsFit outweighs heavier
-    worldOf worldIn followed alsoes firedOf fits fires
+    worldOf worldIn followed alsoes firedOf canFire fires
     tried pass passes upTo costOf weighed among takenWithin minimal lightest lighter chooseOf answer refusedOr best clears
     enough firedFor slimSets slim ones onesIn foundOr0 spoilt keepsOff keepOf keepFor
 run = record {
@@ -67,7 +67,7 @@ pub tested : Tested
 unfolding sample every everyBelow someBelow firstNo questions queryInRange inRange othersInRange countsInRange levelInRange actionInRange
     ruleInRange listInRange listsRise ruleRises rises levelsFit ruleLevelsFit levelsBelow weightsFit outweighs heavier Accepted
     worldOf worldIn followed alsoes firedOf
-    fits fires tried pass passes upTo costOf weighed takenWithin minimal lightest lighter best clears enough firedFor slim
+    canFire fires tried pass passes upTo costOf weighed takenWithin minimal lightest lighter best clears enough firedFor slim
 tested = record {
   accepted = refl;
   a = refl;

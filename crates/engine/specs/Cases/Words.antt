@@ -10,7 +10,7 @@ use Rattle.policy.specs.Questions.{actionInRange, ruleInRange, listInRange, lis
 use Rattle.policy.specs.Questions.{levelsBelow, weightsFit, outweighs, heavier}
 use Rattle.policy.specs.Cases.{sample, ask}
 use Rattle.model.specs.World.{worldOf, worldIn, followed, alsoes}
-use Rattle.model.specs.Fire.{firedOf, fits, fires, tried, pass, passes, upTo}
+use Rattle.model.specs.Fire.{firedOf, canFire, fires, tried, pass, passes, upTo}
 use Rattle.words.specs.Models.{bitOf, wordOf, modelOf}
 use Rattle.engine.specs.Calls.{refusedOr, clears, enough, firedFor}
 use Rattle.engine.specs.Words.{wordQuestions, wordsOf}
@@ -27,6 +27,6 @@ pub record WordsOfRun : Type 0 where
 pub words-of-run : WordsOfRun
 unfolding sample every everyBelow someBelow packed table firstNo questions queryInRange inRange othersInRange countsInRange levelInRange
     actionInRange ruleInRange listInRange listsRise ruleRises rises levelsFit ruleLevelsFit levelsBelow weightsFit outweighs heavier
-    worldOf worldIn followed alsoes firedOf fits fires tried pass passes upTo bitOf wordOf modelOf refusedOr clears enough firedFor
+    worldOf worldIn followed alsoes firedOf canFire fires tried pass passes upTo bitOf wordOf modelOf refusedOr clears enough firedFor
     wordQuestions wordsOf
 words-of-run = record { first = refl; third = refl; second-word = refl; late = refl }

@@ -12,9 +12,9 @@ use Rattle.policy.specs.declared.Policy.{Policy}
 use Rattle.policy.specs.declared.Query.{Query}
 use Rattle.keep.specs.Keep.{keepOf}
 use Rattle.keep.specs.Laws.Same.{keepOf-same}
-use Rattle.engine.specs.Sets.{costOf}
+use Rattle.weight.specs.Cost.{costOf}
 use Rattle.engine.specs.Calls.{refusedOr, answer, clears, slim, slimSets, best, keepFor}
-use Rattle.engine.specs.Laws.Among.{among-same}
+use Rattle.mask.specs.Laws.Among.{among-same}
 
 -- refusals by the same number, or the same answers
 pub refused-same : {A : Type 0} (n m : ℕ) (refuse : ℕ → A) (a b : A) → n ≡ m → (m ≡ 0 → a ≡ b) → refusedOr n refuse a ≡ refusedOr m refuse b

@@ -21,7 +21,7 @@ use Rattle.engine.specs.declared.Firing.{Firing}
 use Rattle.engine.specs.declared.Listing.the-variants.{Refused, Listed}
 use Rattle.engine.specs.Sets.{mostSlim}
 use Rattle.engine.specs.Calls.{clears, slim, slimSets, listQuestions, listOf, firedFor, offerQuestions, refusedOr, fireOf}
-use Rattle.engine.specs.Laws.Among.{among-counted}
+use Rattle.mask.specs.Laws.Among.{among-counted}
 use Rattle.mask.specs.Laws.Minimal.{minimal-taken, minimal-least}
 use Rattle.engine.specs.Laws.Refusals.{answered, refused, list-early, list-yes, offer-accepted}
 

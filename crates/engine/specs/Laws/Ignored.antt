@@ -15,7 +15,7 @@ use Rattle.policy.specs.Questions.{firstNo, questions, queryInRange, inRange}
 use Rattle.policy.specs.Laws.{answers, accepted}
 use Rattle.policy.specs.Laws.Cut.{listed-cut, rule-cut, head-cut, weight-cut, others-cut, rise-cut, fit-with-cut, questions-cut}
 use Rattle.model.specs.Laws.Cut.{world-cut, fired-cut}
-use Rattle.engine.specs.Sets.{weighed, costOf}
+use Rattle.weight.specs.Cost.{weighed, costOf}
 use Rattle.engine.specs.Calls.{answer, offerInRange, offerQuestions, firedFor, enough, clears, slimSets, best, listQuestions}
 use Rattle.engine.specs.Calls.{checkOf, judgeOf, fireOf, chooseOf, listOf, listAfter}
 use Rattle.words.specs.Models.{asking}

@@ -1,11 +1,10 @@
 -- The keep-off mask of an enough set is found, and it is 0 for a policy with no unless entries.
-use Prim.Native.Nat.{ℕ, _^_, _<_}
+use Prim.Native.Nat.{ℕ, _^_, _<_, zero-le}
 use mathlib.Core.Bool.{Bool, _&&_, not}
-use mathlib.Core.Logic.{_⊎_, inl, inr, ⊎-elim}
+use mathlib.Core.Logic.{⊎-elim}
 use mathlib.Core.Option.{Option, none, some}
-use mathlib.Core.Path.{_≡_, refl, sym, subst}
+use mathlib.Core.Path.{_≡_, sym, subst}
 use native.Mathlib.Decide.{ℕ-discrete}
-use native.Mathlib.Omega.{arith}
 use lib.Count.{ones}
 use lib.Dec.{T, T-not, not-T, ltb, ltb→lt, lt→ltb}
 use lib.Pow.{pow-pos}
@@ -14,7 +13,9 @@ use Rattle.base.specs.Every.{someBelow}
 use Rattle.mask.specs.Family.{lightest}
 use Rattle.mask.specs.Laws.{contains-iff, disjoint-iff, has-none, has→<, ⊆-antisym}
 use Rattle.base.specs.Laws.Tests.{either, and-make, and-left, and-right, someBelow-at, someBelow-make}
+use Rattle.mask.specs.Laws.Before.{before-once, before-empty}
 use Rattle.mask.specs.Laws.Lightest.{Lightest, Found, lightest-found}
+use Rattle.mask.specs.Laws.Ones.{ones-zero}
 use Rattle.policy.specs.declared.Policy.{Policy}
 use Rattle.policy.specs.declared.Query.{Query}
 use Rattle.policy.specs.Questions.{Accepted}
@@ -25,10 +26,6 @@ use Rattle.keep.specs.Laws.Rest.{rest-set, rest-apart, rest-undone, rest-has}
 use Rattle.engine.specs.Sets.{Offered, Enough, Keeps, BestKeep}
 use Rattle.engine.specs.Calls.{clears, keepFor}
 use Rattle.engine.specs.Laws.Decide.{clears-iff}
-
-ones-zero : ones 0 ≡ 0
-unfolding ones
-ones-zero = refl
 
 module _ (p : Policy) (q : Query) (ok : Accepted p q) (s : ℕ) where
   -- the test of keep-off masks, and of a set that shows that k is none
@@ -123,19 +120,13 @@ module _ (p : Policy) (q : Query) (ok : Accepted p q) (s : ℕ) where
   -- and there is one at the most
   pub best-once : (a b : ℕ) → BestKeep p q s a → BestKeep p q s b → a ≡ b
   best-once a b h k = elim (ℕ-discrete a b)
-      [ yes e ↦ e | no ne ↦ absurd (not-both (h .least b (λ e. ne (sym e)) (k .keeps)) (k .least a ne (h .keeps))) ]
-    where
-      not-both : (ones a < ones b) ⊎ ((ones a ≡ ones b) × (a < b)) → (ones b < ones a) ⊎ ((ones b ≡ ones a) × (b < a)) → ⊥
-      not-both (inl f) (inl g) = omega arith
-      not-both (inl f) (inr g) = omega arith
-      not-both (inr f) (inl g) = omega arith
-      not-both (inr f) (inr g) = omega arith
+      [ yes e ↦ e | no ne ↦ absurd (before-once ones a b (h .least b (λ e. ne (sym e)) (k .keeps)) (k .least a ne (h .keeps))) ]
 
   -- it is 0 where every larger offered set is enough
   pub keep-zero : ((t : ℕ) → s ⊆ t → Offered p q t → Enough p q t) → Enough p q s → keepFor p q s ≡ 0
   keep-zero up e = elim (ℕ-discrete (keepFor p q s) 0) [
     | yes z ↦ z
-    | no ne ↦ absurd (none-before (keep-best e .least 0 (λ z. ne (sym z)) nothing))
+    | no ne ↦ absurd (before-empty ones (keepFor p q s) (rw ones-zero zero-le) (keep-best e .least 0 (λ z. ne (sym z)) nothing))
   ]
     where
       nothing : Keeps p q s 0
@@ -144,7 +135,3 @@ module _ (p : Policy) (q : Query) (ok : Accepted p q) (s : ℕ) where
         apart = λ i t h. has-none i t;
         all = λ t o sub off. up t sub o;
       }
-
-      none-before : (ones (keepFor p q s) < ones 0) ⊎ ((ones (keepFor p q s) ≡ ones 0) × (keepFor p q s < 0)) → ⊥
-      none-before (inl h) = omega (arith, ones-zero)
-      none-before (inr h) = omega arith

@@ -15,7 +15,7 @@ use Rattle.model.specs.World.{worldOf}
 use Rattle.model.specs.Derivation.{Derivable}
 use Rattle.model.specs.Laws.Model.{same-model}
 use Rattle.strata.specs.declared.Levelling.{Levelling}
-use Rattle.engine.specs.Sets.{costOf}
+use Rattle.weight.specs.Cost.{costOf}
 use Rattle.engine.specs.Calls.{offerInRange, offerQuestions, listQuestions, enough, clears, slimSets, judgeOf, chooseOf}
 use Rattle.engine.specs.Calls.{checkOf, listOf, listAfter}
 use Rattle.words.specs.Models.{asking}

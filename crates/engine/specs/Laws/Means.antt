@@ -11,7 +11,7 @@ use Rattle.policy.specs.Questions.{firstNo, queryQuestions, Accepted}
 use Rattle.engine.specs.declared.Verdict.the-variants.{Refused as judge-refused, Judged}
 use Rattle.engine.specs.declared.Answer.the-variants.{Refused as choose-refused}
 use Rattle.engine.specs.declared.Listing.the-variants.{Refused as list-refused, Listed}
-use Rattle.engine.specs.Sets.{costOf}
+use Rattle.weight.specs.Cost.{costOf}
 use Rattle.engine.specs.Calls.{refusedOr, offerQuestions, listQuestions, enough, slimSets, best, answer}
 use Rattle.engine.specs.Calls.{judgeOf, chooseOf, listOf, listAfter}
 use Rattle.engine.specs.Meaning.{Judges, Chooses, ListsSlim}

@@ -13,9 +13,9 @@ use Rattle.policy.specs.declared.Policy.{Policy}
 use Rattle.policy.specs.declared.Query.{Query}
 use Rattle.policy.specs.Questions.{Accepted}
 use Rattle.policy.specs.Record.{ruleOf, headOf, unlessOf}
-use Rattle.model.specs.World.{worldOf, Reached, start, follow}
+use Rattle.model.specs.World.{worldOf}
 use Rattle.model.specs.Derivation.{Steps, Derivable, DerivableBelow}
-use Rattle.model.specs.Laws.Worlds.{world-holds}
+use Rattle.model.specs.Laws.Worlds.{reached-more, world-holds}
 use Rattle.keep.specs.Search.{someUnless}
 use Rattle.engine.specs.Sets.{Offered, Enough}
 use Rattle.engine.specs.Keep.{NoUnless}
@@ -29,11 +29,6 @@ no-unless p e k l = elim (ℕ-discrete (ruleOf p k .unless .count) 0) [
       (someBelow-make (λ j. not (eqb (ruleOf p j .unless .count) 0)) (p .rules) k l (not-T (eqb (ruleOf p k .unless .count) 0)
       (λ t. ne (eqb→eq (ruleOf p k .unless .count) 0 t)))))
 ]
-
--- a larger set reaches at least as much
-reached-more : {p : Policy} {A B : ℕ → Type 0} {i : ℕ} → ((a : ℕ) → A a → B a) → Reached p A i → Reached p B i
-reached-more f (start {i} t) = start (f i t)
-reached-more f (follow r l t) = follow (reached-more f r) l t
 
 module _ (p : Policy) (none : NoUnless p) where
   no-entry : (k d : ℕ) → k < p .rules → List·Memᴰ d (unlessOf p k) → ⊥

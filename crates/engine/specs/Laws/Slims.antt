@@ -22,9 +22,9 @@ use Rattle.words.specs.Models.{wordOf}
 use Rattle.words.specs.Laws.Wanted.{wanted-bit}
 use Rattle.covers.specs.Covers.{wordsOf, Marks, Table, Members, markedIn}
 use Rattle.covers.specs.Laws.Marks.{table-marked}
-use Rattle.engine.specs.Sets.{costOf}
+use Rattle.weight.specs.Cost.{costOf}
 use Rattle.engine.specs.Calls.{clears, slim, slimSets}
-use Rattle.engine.specs.Laws.Among.{among-idle, among-same}
+use Rattle.mask.specs.Laws.Among.{among-idle, among-same}
 
 -- a table marks the sets of its words
 pub table-marks : (table : List ℕ) (w : ℕ) → Marks (markedIn table) w (getD table w 0)

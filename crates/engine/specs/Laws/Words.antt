@@ -22,7 +22,8 @@ use Rattle.words.specs.Models.{asking, bitOf, wordOf, modelOf}
 use Rattle.words.specs.Laws.Worked.{model-at}
 use Rattle.engine.specs.declared.WordModel.{WordModel}
 use Rattle.engine.specs.declared.Verdict.the-variants.{Judged}
-use Rattle.engine.specs.Sets.{costOf, Offered}
+use Rattle.engine.specs.Sets.{Offered}
+use Rattle.weight.specs.Cost.{costOf}
 use Rattle.engine.specs.Calls.{refusedOr, enough, clears}
 use Rattle.engine.specs.Words.{wordQuestions, wordsOf, SaysWords, SixtyFour}
 use Rattle.engine.specs.Laws.{judge-is}

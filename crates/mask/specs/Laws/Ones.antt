@@ -12,6 +12,11 @@ use Rattle.mask.specs.Mask.{has, _⊆_}
 use Rattle.base.specs.Counted.{counted}
 use Rattle.mask.specs.Laws.{digit, low-le, ⊆-half, ⊆-self, ⊆-join, below-pow}
 
+-- the empty mask has none
+pub ones-zero : ones 0 ≡ 0
+unfolding ones
+ones-zero = refl
+
 -- those of the first i actions that a set has are the ones among its lowest i digits
 counted-low : (w i : ℕ) → counted (has w) i ≡ ones (w % 2 ^ i)
 unfolding counted ones onesIn

@@ -1,17 +1,13 @@
 -- What a packed word is known by: its bits.
-use Prim.Native.Nat.{ℕ, zero, suc, _+_, _*_, _/_, _%_, _^_, _≤_, _<_}
+use Prim.Native.Nat.{ℕ, zero, suc, _+_, _*_, _/_, _%_, _^_, _<_}
 use mathlib.Core.Bool.{Bool, true, false, _&&_, not, cond}
-use mathlib.Core.List.{List}
 use mathlib.Core.Path.{_≡_, refl, sym, _∙_, ap, subst}
 use native.Mathlib.Omega.{arith}
 use lib.Arith.{digits-mod}
 use lib.Bits.{bitAnd, bitXor, differ, xor-shr, xor-step}
 use lib.Dec.{T, eqb, lit<}
-use lib.ListN.{length, getD}
-use lib.Seq.{ext-getD}
 use Rattle.mask.specs.Mask.{has}
 use Rattle.mask.specs.Packed.{packed}
-use Rattle.base.specs.Lists.{table}
 use Rattle.mask.specs.Laws.{digit, has-low, has-high, has-and, has→<, ⊆-antisym}
 
 -- the members of a that are not in b

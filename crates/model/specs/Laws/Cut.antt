@@ -14,12 +14,12 @@ use Rattle.policy.specs.Questions.{inRange}
 use Rattle.policy.specs.Laws.{in-range}
 use Rattle.policy.specs.Laws.Cut.{listed-cut, level-cut, also-cut, rule-cut, head-cut}
 use Rattle.model.specs.World.{alsoes, followed, worldIn, worldOf}
-use Rattle.model.specs.Fire.{Marks, State, holds, fits, fire, fires, tried, pass, passes, upTo, firedOf}
+use Rattle.model.specs.Fire.{Marks, State, holds, canFire, fire, fires, tried, pass, passes, upTo, firedOf}
 
--- a rule fits where its cut does
-fits-cut : (held : Marks) (w : ℕ) (r : Rule) → fits held w (cutRule r) ≡ fits held w r
-unfolding fits
-fits-cut held w r = rw (listed-cut (r .ifs), listed-cut (r .unless))
+-- a rule can fire where its cut can
+can-fire-cut : (held : Marks) (w : ℕ) (r : Rule) → canFire held w (cutRule r) ≡ canFire held w r
+unfolding canFire
+can-fire-cut held w r = rw (listed-cut (r .ifs), listed-cut (r .unless))
 
 -- the worlds
 module _ (p : Policy) where
@@ -44,7 +44,7 @@ module _ (p : Policy) (t : T (inRange p)) (w want : ℕ) where
 
   fires-cut : (level : ℕ) (st : State) (k : ℕ) → k < p .rules → fires (cut p) w want level st k ≡ fires p w want level st k
   unfolding fires
-  fires-cut level st k h = rw (head-level k h, rule-cut p k h, fits-cut (st .held) w (ruleOf p k))
+  fires-cut level st k h = rw (head-level k h, rule-cut p k h, can-fire-cut (st .held) w (ruleOf p k))
 
   fire-cut : (st : State) (k : ℕ) → k < p .rules → fire (cut p) st k ≡ fire p st k
   fire-cut st k h = rw (head-cut p k h)

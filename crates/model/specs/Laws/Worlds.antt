@@ -24,6 +24,11 @@ join-iff a b i = (
   λ t. rw has-or (⊎-elim (or-left (has a i) (has b i)) (or-right (has a i) (has b i)) t),
 )
 
+-- what is reached from a set is reached from a larger one
+pub reached-more : {p : Policy} {A B : ℕ → Type 0} {i : ℕ} → ((a : ℕ) → A a → B a) → Reached p A i → Reached p B i
+reached-more f (start {i} t) = start (f i t)
+reached-more f (follow r l t) = follow (reached-more f r) l t
+
 -- a mask that counts where a test passes
 cond-at : (b : Bool) (m i : ℕ) → T (has (cond b m 0) i) → T b × T (has m i)
 cond-at true m i t = (tt, t)

@@ -24,7 +24,7 @@ use Rattle.engine.specs.declared.Listing.the-variants.{Refused}
 use Rattle.mask.specs.Family.{among}
 use Rattle.engine.specs.Sets.{mostSlim, Enough, Slim}
 use Rattle.engine.specs.Calls.{slim, slimSets, listQuestions, listOf}
-use Rattle.engine.specs.Laws.Among.{among-same, among-counted}
+use Rattle.mask.specs.Laws.Among.{among-same, among-counted}
 use Rattle.engine.specs.Laws.Decide.{slim-iff}
 use Rattle.engine.specs.Laws.Refusals.{refused, list-no}
 use Rattle.base.specs.Lists.{filled}

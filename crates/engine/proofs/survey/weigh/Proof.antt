@@ -7,7 +7,7 @@ use native.Mathlib.Omega.{arith}
 use borrow.Author.Needs.{needs}
 use Rattle.covers.specs.Covers.{Marks}
 use Rattle.engine.specs.declared.survey.Found.{Found}
-use Rattle.engine.specs.Sets.{weighed}
+use Rattle.weight.specs.Cost.{weighed}
 use Rattle.engine.specs.Laws.Weighing.{Weighed}
 use Rattle.engine.specs.Laws.Slims.{marks-zero}
 use Rattle.engine.proofs.Surveyed.{more-slim, weighed-at, weighed-idle, weighed-skip, weighed-more}

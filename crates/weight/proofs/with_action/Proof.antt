@@ -4,9 +4,9 @@ use native.Mathlib.Nat.{add-zero}
 use native.Mathlib.Omega.{arith}
 use mathlib.Core.Path.{sym, _∙_}
 use borrow.Author.Needs.{needs}
-use Rattle.engine.specs.Laws.Sums.{bounded-next}
-use Rattle.engine.proofs.judging.with_action.Statement.{statement}
-use Rattle.engine.proofs.judging.with_action.Tie as tie
+use Rattle.weight.specs.Laws.Sums.{bounded-next}
+use Rattle.weight.proofs.with_action.Statement.{statement}
+use Rattle.weight.proofs.with_action.Tie as tie
 
 returns : tie.Need-returns
 returns c =

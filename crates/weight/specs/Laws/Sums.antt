@@ -12,7 +12,7 @@ use Rattle.policy.specs.declared.Action.{Action}
 use Rattle.policy.specs.Record.{noAction}
 use Rattle.policy.specs.Questions.{Accepted}
 use Rattle.policy.specs.Laws.{accepted-range}
-use Rattle.engine.specs.Sets.{weighed, Bounded}
+use Rattle.weight.specs.Cost.{weighed, Bounded}
 
 -- one weight more
 pub bounded-next : {n sum w : ℕ} → Bounded n sum → n < 16 → w ≤ 65535 → Bounded (n + 1) (sum + w)
