@@ -14,8 +14,8 @@ use Rattle.engine.specs.declared.Firing.{Firing}
 use Rattle.engine.specs.declared.Listing.the-variants.{Refused as list-refused, Listed}
 use Rattle.engine.specs.Sets.{mostSlim}
 use Rattle.engine.specs.Calls.{refusedOr, slimSets, listQuestions, chooseOf, listOf, listAfter}
-use Rattle.reader.specs.Text.{ascii, decimal}
-use Rattle.reader.specs.Written.{lineOf, commas}
+use Rattle.format.specs.Text.{ascii, decimal}
+use Rattle.format.specs.Written.{lineOf, commas}
 use Rattle.clear.specs.declared.results.QueryResult.{QueryResult}
 use Rattle.clear.specs.Laws.Worked.{Worked, ForBest}
 use Rattle.clear.specs.Printed.{written, answerText, setsListed, rulesFired, textOf}

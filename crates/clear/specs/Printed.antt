@@ -10,8 +10,8 @@ use Rattle.engine.specs.declared.Listing.{Listing}
 use Rattle.engine.specs.declared.Listing.the-variants.{Refused as list-refused, Listed}
 use Rattle.engine.specs.Sets.{mostSlim}
 use Rattle.engine.specs.Calls.{chooseOf, listOf, listAfter, fireOf}
-use Rattle.reader.specs.Text.{ascii, decimal}
-use Rattle.reader.specs.Written.{lineOf, commas}
+use Rattle.format.specs.Text.{ascii, decimal}
+use Rattle.format.specs.Written.{lineOf, commas}
 use Rattle.text.specs.Put.{refusedText}
 
 -- how many sets List wrote

@@ -9,7 +9,7 @@ use Rattle.strata.specs.Levels.{foundLevels}
 use Rattle.engine.specs.Laws.Refusals.{answered, refused}
 use Rattle.reader.specs.declared.Reading.{Reading}
 use Rattle.reader.specs.File.{draftOf}
-use Rattle.reader.specs.Written.{levelText, each}
+use Rattle.format.specs.Written.{levelText, each}
 use Rattle.text.specs.Put.{refusedText}
 use Rattle.levels.specs.Printed.{levelsText, textOf}
 

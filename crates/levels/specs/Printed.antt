@@ -5,7 +5,7 @@ use lib.ListN.{take}
 use Rattle.policy.specs.declared.Policy.{Policy}
 use Rattle.engine.specs.Calls.{refusedOr}
 use Rattle.strata.specs.Levels.{foundLevels}
-use Rattle.reader.specs.Written.{each, levelText}
+use Rattle.format.specs.Written.{each, levelText}
 use Rattle.reader.specs.File.{draftOf}
 use Rattle.text.specs.Put.{refusedText}
 

@@ -4,6 +4,7 @@ ghost use mathlib.Core.Path.{_≡_};
 ghost use lib.ListN.{length, take};
 ghost use Rattle.levels.specs.Printed.{textOf};
 use base::smaller;
+use format::MOST_BYTES;
 
 // Puts the text for a file at the start of the buffer.
 fn put_found(buffer: &mut [u8], file: &[u8]) -> usize
@@ -27,7 +28,7 @@ fn put_found(buffer: &mut [u8], file: &[u8]) -> usize
 }
 
 fn main() {
-    let mut input = [0u8; 32769];
+    let mut input = [0u8; MOST_BYTES + 1];
     let mut buffer = [0u8; 4096];
     let n = io::read_full(0, &mut input);
     let end = put_found(&mut buffer, &input[..n]);

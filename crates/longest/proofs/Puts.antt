@@ -6,6 +6,7 @@ use native.Mathlib.Nat.{le-of-eq}
 use native.Mathlib.Omega.{arith}
 use lib.ListN.{length, take}
 use Rattle.policy.specs.declared.Policy.{Policy}
+use Rattle.format.specs.Bounds.{longestFile}
 use Rattle.reader.specs.declared.Queries.{Queries}
 use Rattle.writer.specs.declared.Written.the-variants.{Refused, Length}
 use Rattle.writer.specs.Writing.{Writes}
@@ -15,7 +16,7 @@ use Rattle.longest.specs.Printed.{theFile}
 use Rattle.longest.specs.Laws.Written.{never-refused}
 
 -- of the record as the program holds it
-module _ (before after : List ℕ) (long : length before ≡ 27294) {p : Policy} {qs : Queries} (e : p ≡ atLeast)
+module _ (before after : List ℕ) (long : length before ≡ longestFile) {p : Policy} {qs : Queries} (e : p ≡ atLeast)
     (f : qs ≡ stated .queries) where
   -- it is not refused
   pub not-refused : (n : ℕ) → Writes p qs before after (Refused n) → ⊥
@@ -25,7 +26,7 @@ module _ (before after : List ℕ) (long : length before ≡ 27294) {p : Policy}
 
   -- the file stands at the buffer's start
   pub file-put : (n : ℕ) → Writes p qs before after (Length n) → length after ≡ length before
-      → (take n after ≡ theFile) × ((n ≤ 27294) × (length after ≡ 27294))
+      → (take n after ≡ theFile) × ((n ≤ longestFile) × (length after ≡ longestFile))
   unfolding theFile
   file-put n w kept =
       let said = rw (e, f) at w in

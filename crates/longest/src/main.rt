@@ -2,15 +2,17 @@
 ghost use Prim.Native.Nat.{_≤_};
 ghost use mathlib.Core.Path.{_≡_};
 ghost use lib.ListN.{length, take};
+ghost use Rattle.format.specs.Bounds.{longestFile};
 ghost use Rattle.longest.specs.Printed.{theFile};
+use format::LONGEST_FILE;
 use writer::Written;
 
 // Puts the file at the start of the buffer, and returns its length. The writer never refuses it.
 fn put_file(buffer: &mut [u8]) -> usize
-    requires { ⌜ length (now buffer) ≡ 27294 ⌝ }
+    requires { ⌜ length (now buffer) ≡ longestFile ⌝ }
     ensures { λ r. ⌜ take r (now (buffer .exit)) ≡ theFile ⌝ }
-    ensures { λ r. ⌜ r ≤ 27294 ⌝ }
-    ensures { λ _. ⌜ length (now (buffer .exit)) ≡ 27294 ⌝ }
+    ensures { λ r. ⌜ r ≤ longestFile ⌝ }
+    ensures { λ _. ⌜ length (now (buffer .exit)) ≡ longestFile ⌝ }
 {
     let policy = threshold::policy();
     let queries = threshold::queries();
@@ -22,7 +24,7 @@ fn put_file(buffer: &mut [u8]) -> usize
 }
 
 fn main() {
-    let mut buffer = [0u8; 27294];
+    let mut buffer = [0u8; LONGEST_FILE];
     let end = put_file(&mut buffer);
     io::write_all(1, &buffer[..end]);
 }

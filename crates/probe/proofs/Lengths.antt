@@ -6,8 +6,8 @@ use native.Mathlib.Omega.{arith}
 use lib.ListN.{length, length-append}
 use Rattle.policy.specs.declared.Policy.{Policy}
 use Rattle.reader.specs.declared.Queries.{Queries}
-use Rattle.reader.specs.Written.{fileOf}
-use Rattle.reader.specs.Laws.Lengths.{line-length}
+use Rattle.format.specs.Written.{fileOf}
+use Rattle.format.specs.Laws.Lengths.{line-length}
 use Rattle.writer.specs.declared.Written.{Written}
 use Rattle.writer.specs.declared.Written.the-variants.{Length}
 use Rattle.writer.specs.Writing.{fileText, Writes}

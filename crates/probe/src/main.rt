@@ -1,6 +1,7 @@
 // The program `probe`: reads a file from standard input, and writes what the engine's
 // calls and the writer return for its policy and queries.
 use base::smaller;
+use format::MOST_BYTES;
 use out::keyed;
 use out::text;
 use policy::Policy;
@@ -48,7 +49,7 @@ fn answer_many(policy: Policy, queries: Queries) {
 }
 
 fn main() {
-    let mut input = [0u8; 32769];
+    let mut input = [0u8; MOST_BYTES + 1];
     let n = io::read_full(0, &mut input);
     let reading = reader::read(&input[..n]);
     if reading.refusal != 0 {

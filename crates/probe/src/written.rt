@@ -2,9 +2,11 @@
 ghost use Prim.Native.Nat.{_≤_};
 ghost use mathlib.Core.Path.{_≡_};
 ghost use lib.ListN.{length};
+ghost use Rattle.format.specs.Bounds.{longestFile};
 use crate::out::keyed;
 use crate::out::text;
 use base::smaller;
+use format::LONGEST_FILE;
 use policy::Policy;
 use reader::Queries;
 use writer::Written;
@@ -60,9 +62,9 @@ pub(crate) fn write(policy: Policy, queries: Queries, length: usize)
 
 // The length of the file, or 1 where it is refused.
 fn file_length(policy: Policy, queries: Queries) -> usize
-    ensures { λ r. ⌜ (1 ≤ r) × (r ≤ 27294) ⌝ }
+    ensures { λ r. ⌜ (1 ≤ r) × (r ≤ longestFile) ⌝ }
 {
-    let mut buffer = [0u8; 27294];
+    let mut buffer = [0u8; LONGEST_FILE];
     let written = writer::write(policy, queries, &mut buffer);
     match written {
         Written::Refused(_) => 1,

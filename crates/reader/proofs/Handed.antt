@@ -12,7 +12,8 @@ use Rattle.engine.specs.Calls.{checkOf}
 use Rattle.reader.specs.declared.Reading.{Reading}
 use Rattle.reader.specs.declared.text.Place.{Place}
 use Rattle.reader.specs.declared.text.Place.the-variants.{Refused, At}
-use Rattle.reader.specs.Parser.{Parser, _>>_, pure, ask, end}
+use Rattle.format.specs.Bounds.{mostBytes}
+use Rattle.format.specs.Parser.{Parser, _>>_, pure, ask, end}
 use Rattle.reader.specs.File.{refusedReading, lines, draft, handed, draftOf, readOf}
 use Rattle.reader.specs.Claim.{DraftStates}
 use Rattle.reader.specs.Laws.Files.{number, read-refused, read-passed, read-denied}
@@ -23,7 +24,7 @@ use Rattle.reader.proofs.Steps.{ends, stays, found-at, refused-at, next
 
 -- question 1, then the draft
 abbrev pub input : List ℕ → Parser Reading
-input s = ask 1 (leb (length s) 32768) >> draft
+input s = ask 1 (leb (length s) mostBytes) >> draft
 
 module _ {s : List ℕ} {p : Place} {a : Reading} (h : Parsed s (At 0) (input s) p a) where
   pub hands-refusal : {r : Reading} {n : ℕ} → p ≡ Refused n → r ≡ refusedReading n → r ≡ draftOf s

@@ -6,6 +6,7 @@ use native.Mathlib.Omega.{arith}
 use lib.ListN.{length, take}
 use Rattle.policy.specs.Laws.{answers}
 use Rattle.engine.specs.Laws.Refusals.{answered}
+use Rattle.format.specs.Bounds.{longestFile}
 use Rattle.reader.specs.declared.Reading.{Reading}
 use Rattle.reader.specs.File.{refusedReading, draftOf, readOf}
 use Rattle.reader.specs.Laws.Files.{read-refused, read-passed, read-denied}
@@ -21,15 +22,15 @@ use Rattle.rewrite.specs.Laws.{text-refused}
 
 -- the text stands in the buffer
 abbrev Whole : List ℕ → List ℕ → ℕ → Type 0
-Whole s after end = (take end after ≡ textOf s) × ((end ≤ 27294) × (length after ≡ 27294))
+Whole s after end = (take end after ≡ textOf s) × ((end ≤ longestFile) × (length after ≡ longestFile))
 
-refused-stands : (s : List ℕ) (n : ℕ) {before after : List ℕ} {end : ℕ} → length before ≡ 27294 → refusedText n ≡ textOf s
+refused-stands : (s : List ℕ) (n : ℕ) {before after : List ℕ} {end : ℕ} → length before ≡ longestFile → refusedText n ≡ textOf s
     → Puts before 0 (refusedText n) after end → Whole s after end
 refused-stands s n long e put =
-    let all = whole 27294 long (omega (arith, refused-length n)) put in
+    let all = whole longestFile long (omega (arith, refused-length n)) put in
     (all .0 ∙ e, all .1)
 
-module _ (s : List ℕ) {r : Reading} (same : r ≡ draftOf s) (before : List ℕ) (long : length before ≡ 27294) where
+module _ (s : List ℕ) {r : Reading} (same : r ≡ draftOf s) (before : List ℕ) (long : length before ≡ longestFile) where
   -- the draft is refused
   pub draft-refused : ¬ (r .refusal ≡ 0) → {after : List ℕ} {end : ℕ} → Puts before 0 (refusedText (r .refusal)) after end
       → Whole s after end

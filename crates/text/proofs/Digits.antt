@@ -7,8 +7,8 @@ use native.Mathlib.Nat.{pow-le-pow-right, one-le-pow}
 use native.Mathlib.Decide.{decLt}
 use borrow.Author.Tests.{lt-ltb}
 use Rattle.io.specs.Digits.{digits, glyph, Fewest}
-use Rattle.reader.specs.Text.{decimalBy}
-use Rattle.reader.specs.Laws.Numbers.{one-digit, more-digits}
+use Rattle.format.specs.Text.{decimalBy}
+use Rattle.format.specs.Laws.Numbers.{one-digit, more-digits}
 
 -- the byte of a digit below 10
 glyph-below : (d : ℕ) → d < 10 → glyph d ≡ 48 + d

@@ -3,8 +3,8 @@ use Prim.Native.Nat.{ℕ, zero, suc, _+_, _-_}
 use mathlib.Core.Path.{_≡_}
 use mathlib.Core.List.{List, [], _++_}
 use lib.ListN.{length, take, drop}
-use Rattle.reader.specs.Text.{ascii, decimal}
-use Rattle.reader.specs.Written.{lineOf}
+use Rattle.format.specs.Text.{ascii, decimal}
+use Rattle.format.specs.Written.{lineOf}
 
 -- as much of a text as there is room for behind the first `at` bytes
 unfoldable pub fitting : List ℕ → ℕ → List ℕ → List ℕ

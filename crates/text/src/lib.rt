@@ -1,8 +1,8 @@
 // Text put into a lent buffer behind its first `at` bytes. Each function returns where the text ends; bytes that do not fit
 // are dropped.
 ghost use mathlib.Core.List.{_++_};
-ghost use Rattle.reader.specs.Text.{ascii, decimal};
-ghost use Rattle.reader.specs.Written.{commas, each};
+ghost use Rattle.format.specs.Text.{ascii, decimal};
+ghost use Rattle.format.specs.Written.{commas, each};
 ghost use Rattle.text.specs.Put.{Puts, comma, refusedText};
 
 // Puts a text.

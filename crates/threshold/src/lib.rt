@@ -1,6 +1,6 @@
 // The policy whose query has the most slim sets: decision by decision, "at least j of the first i actions".
 ghost use mathlib.Core.Path.{_≡_};
-ghost use Rattle.reader.specs.File.{zeroRule};
+ghost use Rattle.format.specs.Entries.{zeroRule};
 ghost use Rattle.base.specs.Lists.{filled};
 ghost use Rattle.threshold.specs.AtLeast.{plain, rows, atLeast, stated};
 use policy::Action;

@@ -2,8 +2,8 @@
 ghost use Prim.Native.Nat.{_<_};
 ghost use mathlib.Core.List.{[], _∷_};
 ghost use mathlib.Core.Path.{_≡_};
-ghost use Rattle.reader.specs.File.{zeroRule};
-ghost use Rattle.reader.specs.Format.{decisionsOf};
+ghost use Rattle.format.specs.Entries.{zeroRule};
+ghost use Rattle.format.specs.Format.{decisionsOf};
 ghost use Rattle.threshold.specs.AtLeast.{There, fewer, without, having};
 use crate::numbers::number;
 use policy::Decisions;

@@ -5,7 +5,7 @@ use mathlib.Core.Path.{_≡_, ap}
 use native.Mathlib.Omega.{arith}
 use lib.ListN.{length, getD, take}
 use Rattle.base.proofs.Every.{front-take}
-use Rattle.reader.specs.Written.{each}
+use Rattle.format.specs.Written.{each}
 use Rattle.text.specs.Put.{Puts}
 use Rattle.text.specs.Laws.Putting.{nothing, same-text}
 use Rattle.text.specs.Laws.Entries.{one-text}

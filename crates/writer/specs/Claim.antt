@@ -6,6 +6,7 @@ use lib.ListN.{length, take, drop}
 use Rattle.policy.specs.declared.Policy.{Policy}
 use Rattle.policy.specs.Record.{Agree, Sized}
 use Rattle.engine.specs.Meaning.{AllYes}
+use Rattle.format.specs.Bounds.{longestFile}
 use Rattle.reader.specs.declared.Queries.{Queries}
 use Rattle.reader.specs.File.{readOf}
 use Rattle.reader.specs.Claim.{AcceptedFile}
@@ -41,7 +42,7 @@ pub record Saves : Type 0 where
   pub back : (p : Policy) (qs : Queries) → AcceptedRecord p qs → (before : List ℕ)
       → Writes p qs before (writeAfter p qs before) (writeOf p qs (length before))
   -- it is short, so that question 1 is never in its way
-  pub short : (p : Policy) (qs : Queries) → AcceptedRecord p qs → length (fileText p qs) ≤ 27294
+  pub short : (p : Policy) (qs : Queries) → AcceptedRecord p qs → length (fileText p qs) ≤ longestFile
   -- records that agree below their counts give the same bytes
   pub same : (p p′ : Policy) (qs qs′ : Queries) → Agree p p′ → AgreeQueries qs qs′ → SameFile p qs p′ qs′
   -- each accepted file is the writer's output for its record

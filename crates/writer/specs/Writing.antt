@@ -12,7 +12,7 @@ use Rattle.engine.specs.Calls.{refusedOr}
 use Rattle.engine.specs.Meaning.{Refuses, AllYes}
 use Rattle.reader.specs.declared.Queries.{Queries}
 use Rattle.reader.specs.File.{readOf}
-use Rattle.reader.specs.Written.{fileOf}
+use Rattle.format.specs.Written.{fileOf}
 use Rattle.reader.specs.Cleared.{clearedReading}
 use Rattle.writer.specs.declared.Written.{Written}
 use Rattle.writer.specs.declared.Written.the-variants.{Refused, Length}

@@ -3,9 +3,9 @@
 ghost use mathlib.Core.List.{_++_};
 ghost use lib.ListN.{take};
 ghost use Rattle.policy.specs.Record.{listed};
-ghost use Rattle.reader.specs.Text.{ascii};
-ghost use Rattle.reader.specs.Written.{lineOf, commas, letterOf, each};
-ghost use Rattle.reader.specs.Written.{actionText, ruleText, queryText, entriesText, fileOf};
+ghost use Rattle.format.specs.Text.{ascii};
+ghost use Rattle.format.specs.Written.{lineOf, commas, letterOf, each};
+ghost use Rattle.format.specs.Written.{actionText, ruleText, queryText, entriesText, fileOf};
 ghost use Rattle.text.specs.Put.{Puts};
 use base::smaller;
 use policy::Action;

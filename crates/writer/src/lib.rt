@@ -6,6 +6,7 @@ ghost use lib.ListN.{length, take};
 ghost use Rattle.base.specs.Every.{every};
 ghost use Rattle.policy.specs.Questions.{isDecision, isMask};
 ghost use Rattle.writer.specs.Writing.{writeOf, writeAfter, Writes};
+use format::LONGEST_FILE;
 use policy::Policy;
 use reader::Queries;
 
@@ -49,7 +50,7 @@ pub fn write(policy: Policy, queries: Queries, buffer: &mut [u8]) -> Written
     if refusal != 0 {
         return Written::Refused(refusal);
     }
-    let mut whole = [0u8; 27294];
+    let mut whole = [0u8; LONGEST_FILE];
     let end = file::put_file(&mut whole, policy, queries);
     if buffer.len() < end {
         return Written::Refused(10);

@@ -15,10 +15,10 @@ use Rattle.engine.specs.Calls.{slim, slimSets, best, answer, chooseOf, fireOf}
 use Rattle.mask.specs.Laws.Among.{among-at}
 use Rattle.engine.specs.Laws.Few.{few-slim, fire-places}
 use Rattle.engine.specs.Laws.Refusals.{refused}
-use Rattle.reader.specs.Text.{decimal}
-use Rattle.reader.specs.Written.{commas}
+use Rattle.format.specs.Text.{decimal}
+use Rattle.format.specs.Written.{commas}
 use Rattle.base.specs.Laws.All.{All}
-use Rattle.reader.specs.Laws.Lengths.{decimal-length, ten-digits, commas-length, line-length}
+use Rattle.format.specs.Laws.Lengths.{decimal-length, ten-digits, commas-length, line-length}
 use Rattle.text.specs.Put.{refusedText}
 use Rattle.clear.specs.Printed.{answerText, setsListed, rulesFired, textOf}
 use Rattle.clear.specs.Laws.Listed.{lists-slim}

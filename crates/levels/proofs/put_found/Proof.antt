@@ -3,7 +3,7 @@ use mathlib.Core.Path.{_≡_, _∙_, ap}
 use borrow.Author.Needs.{needs}
 use lib.ListN.{length}
 use Rattle.base.proofs.Every.{front-within, front-length, front-take}
-use Rattle.reader.specs.Written.{lineOf, each, levelText}
+use Rattle.format.specs.Written.{lineOf, each, levelText}
 use Rattle.text.specs.Laws.Putting.{same-text, whole}
 use Rattle.levels.specs.Laws.Fits.{text-fits}
 use Rattle.levels.proofs.Texts.{draft-refused, none-found, levels-found}

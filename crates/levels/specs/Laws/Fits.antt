@@ -10,9 +10,9 @@ use Rattle.engine.specs.Calls.{refusedOr}
 use Rattle.strata.specs.Levels.{foundLevels}
 use Rattle.strata.specs.Laws.Levels.{finds-levels}
 use Rattle.engine.specs.Laws.Refusals.{answered, refused}
-use Rattle.reader.specs.Written.{levelText, each}
+use Rattle.format.specs.Written.{levelText, each}
 use Rattle.reader.specs.File.{draftOf}
-use Rattle.reader.specs.Laws.Lengths.{ten-digits, line-length, each-length}
+use Rattle.format.specs.Laws.Lengths.{ten-digits, line-length, each-length}
 use Rattle.text.specs.Put.{refusedText}
 use Rattle.text.specs.Laws.Entries.{refused-length}
 use Rattle.levels.specs.Printed.{levelsText, textOf}

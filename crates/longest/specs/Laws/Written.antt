@@ -12,9 +12,12 @@ use Rattle.policy.specs.Questions.{queryInRange}
 use Rattle.policy.specs.Laws.{Answers, firstNo-zero, answered-with, accepted as query-accepted}
 use Rattle.policy.specs.Record.{noRule, ruleOf, Eights, Sized}
 use Rattle.engine.specs.Meaning.{AllYes}
-use Rattle.reader.specs.Cleared.{cleared, clearedRule, clearedReading}
-use Rattle.reader.specs.File.{zeroRule, recordOf, readingOf, readOf}
-use Rattle.reader.specs.Format.{decisionsOf}
+use Rattle.format.specs.Bounds.{longestFile}
+use Rattle.reader.specs.Cleared.{clearedReading}
+use Rattle.format.specs.Cleared.{cleared, clearedRule}
+use Rattle.reader.specs.File.{readingOf, readOf}
+use Rattle.format.specs.Entries.{zeroRule, recordOf}
+use Rattle.format.specs.Format.{decisionsOf}
 use Rattle.base.specs.Lists.{filled}
 use Rattle.writer.specs.Claim.{AcceptedRecord}
 use Rattle.writer.specs.Writing.{queriesInRange, recordQuestions, writeQuestions}
@@ -66,7 +69,7 @@ unfolding stated readingOf filled
 record-accepted = record { policy = sized; queries = refl; answers = answers }
 
 -- so a buffer of 27,294 bytes or more gets the file
-pub never-refused : (places : ℕ) → 27294 ≤ places → AllYes (writeQuestions atLeast (stated .queries) places)
+pub never-refused : (places : ℕ) → longestFile ≤ places → AllYes (writeQuestions atLeast (stated .queries) places)
 never-refused places h =
     room atLeast (stated .queries) places answers (omega (arith, short atLeast (stated .queries) record-accepted))
 

@@ -6,6 +6,7 @@ use borrow.Author.Tests.{le-leb, lt-leb}
 use borrow.Author.Needs.{needs}
 use denote.Ref.{now}
 use lib.ListN.{length}
+use Rattle.format.specs.Bounds.{mostBytes}
 use Rattle.reader.specs.File.{draft}
 use Rattle.reader.proofs.Steps.{stays, next, asked, denied}
 use Rattle.reader.proofs.Handed.{hands-refusal, hands-reading, more-follows, nothing-follows}
@@ -14,7 +15,7 @@ use Rattle.reader.proofs.draft.Tie as tie
 
 returns : tie.Need-returns
 returns c =
-    let long : 32768 < length (now (c .before .before .before .args .s)) = omega (arith, c .before .if1 .taken) in
+    let long : mostBytes < length (now (c .before .before .before .args .s)) = omega (arith, c .before .if1 .taken) in
     hands-refusal {a = c .refused-reading .result} (denied 1 _ refl (lt-leb _ _ long)) refl (c .refused-reading .ensures)
 
 returns-2 : tie.Need-returns-2

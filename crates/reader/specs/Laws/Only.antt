@@ -11,10 +11,12 @@ use Rattle.policy.specs.declared.Decisions.{Decisions}
 use Rattle.policy.specs.Record.{listed, levelsOf, actionsOf, rulesOf, ruleOf, noAction, noRule, Sized}
 use Rattle.policy.specs.Laws.{InRange, in-range}
 use Rattle.reader.specs.declared.Reading.{Reading}
-use Rattle.reader.specs.Format.{decisionsOf}
+use Rattle.format.specs.Format.{decisionsOf}
 use Rattle.base.specs.Lists.{filled}
-use Rattle.reader.specs.File.{zeroRule, zeroQuery, recordOf, readingOf, draftOf, readOf}
-use Rattle.reader.specs.Cleared.{clearedRule, cleared, clearedReading}
+use Rattle.reader.specs.File.{readingOf, draftOf, readOf}
+use Rattle.format.specs.Entries.{zeroRule, zeroQuery, recordOf}
+use Rattle.reader.specs.Cleared.{clearedReading}
+use Rattle.format.specs.Cleared.{clearedRule, cleared}
 use Rattle.reader.specs.Claim.{AcceptedFile, DraftStates, States}
 use Rattle.reader.specs.Laws.Files.{draft-of-accepted}
 use Rattle.reader.specs.Laws.Back.{draft-back}

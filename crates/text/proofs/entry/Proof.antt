@@ -2,7 +2,7 @@
 use mathlib.Core.Path.{sym, ap}
 use mathlib.Core.List.{_++_}
 use borrow.Author.Needs.{needs}
-use Rattle.reader.specs.Text.{decimal}
+use Rattle.format.specs.Text.{decimal}
 use Rattle.text.specs.Laws.Putting.{both, same-text}
 use Rattle.text.specs.Laws.Entries.{comma-first, comma-other}
 use Rattle.text.proofs.entry.Statement.{statement}

@@ -7,8 +7,8 @@ use borrow.Author.Needs.{needs, fits-under}
 use denote.Ref.{now}
 use lib.ListN.{take, length}
 use lib.Seq.{take-all}
-use Rattle.reader.specs.Text.{ascii, decimal}
-use Rattle.reader.specs.Written.{each}
+use Rattle.format.specs.Text.{ascii, decimal}
+use Rattle.format.specs.Written.{each}
 use Rattle.text.specs.Put.{Puts}
 use Rattle.text.specs.Laws.Putting.{nothing, same-length, same-text}
 use Rattle.text.specs.Laws.Entries.{one-text}

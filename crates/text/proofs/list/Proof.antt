@@ -6,7 +6,7 @@ use borrow.Author.Needs.{needs, fits-under}
 use denote.Ref.{now}
 use lib.ListN.{take, length}
 use lib.Seq.{take-all}
-use Rattle.reader.specs.Written.{commas, joined}
+use Rattle.format.specs.Written.{commas, joined}
 use Rattle.text.specs.Put.{Puts}
 use Rattle.text.specs.Laws.Putting.{both, nothing, same-length, same-text}
 use Rattle.text.specs.Laws.Entries.{one-entry}

@@ -1,7 +1,7 @@
 -- `text::number` meets its contract: at most ten digits are put.
 use mathlib.Core.Path.{_∙_}
 use borrow.Author.Needs.{needs}
-use Rattle.reader.specs.Text.{decimal}
+use Rattle.format.specs.Text.{decimal}
 use Rattle.text.specs.Laws.Putting.{same-text}
 use Rattle.text.proofs.Digits.{digits-decimal, few-digits}
 use Rattle.text.proofs.number.Statement.{statement}

@@ -1,6 +1,6 @@
 -- `text::refusal` meets its contract: the line is the text of the refusal.
 use borrow.Author.Needs.{needs}
-use Rattle.reader.specs.Written.{lineOf}
+use Rattle.format.specs.Written.{lineOf}
 use Rattle.text.specs.Put.{refusedText}
 use Rattle.text.proofs.refusal.Statement.{statement}
 use Rattle.text.proofs.refusal.Tie as tie

@@ -7,9 +7,9 @@ use native.Mathlib.Numerals.{add-one}
 use native.Mathlib.Omega.{arith}
 use lib.ListN.{length, take, getD}
 use lib.Seq.{take-suc, length-take-le}
-use Rattle.reader.specs.Text.{ascii, decimal}
-use Rattle.reader.specs.Written.{joined, commas, each}
-use Rattle.reader.specs.Laws.Lengths.{ten-digits, line-length}
+use Rattle.format.specs.Text.{ascii, decimal}
+use Rattle.format.specs.Written.{joined, commas, each}
+use Rattle.format.specs.Laws.Lengths.{ten-digits, line-length}
 use Rattle.text.specs.Put.{Puts, comma, refusedText}
 use Rattle.text.specs.Laws.Putting.{both, same-text}
 

@@ -6,7 +6,7 @@ use lib.ListN.{replicate}
 use Rattle.policy.specs.declared.Rule.{Rule}
 use Rattle.policy.specs.declared.Action.{Action}
 use Rattle.policy.specs.declared.Policy.{Policy}
-use Rattle.reader.specs.File.{recordOf}
+use Rattle.format.specs.Entries.{recordOf}
 use Rattle.base.specs.Lists.{filled}
 use Rattle.threshold.specs.AtLeast.{atLeast}
 use Rattle.threshold.specs.Laws.Taken.{rows-length}

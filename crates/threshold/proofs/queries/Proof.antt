@@ -5,7 +5,8 @@ use mathlib.Core.Path.{ap}
 use borrow.Author.Needs.{needs}
 use lib.ListN.{replicate}
 use Rattle.reader.specs.declared.Queries.{Queries}
-use Rattle.reader.specs.File.{zeroQuery, readingOf}
+use Rattle.reader.specs.File.{readingOf}
+use Rattle.format.specs.Entries.{zeroQuery}
 use Rattle.base.specs.Lists.{filled}
 use Rattle.threshold.specs.AtLeast.{eight, stated}
 use Rattle.threshold.proofs.queries.Statement.{statement}

@@ -20,8 +20,8 @@ use Rattle.model.specs.Model.{Applies, Model}
 use Rattle.base.specs.Laws.All.{All, all-nil, all-cons, all-head}
 use Rattle.model.specs.Laws.Model.{is-model}
 use Rattle.base.specs.Lists.{filled}
-use Rattle.reader.specs.File.{zeroRule, recordOf}
-use Rattle.reader.specs.Laws.Lists.{listed-of}
+use Rattle.format.specs.Entries.{zeroRule, recordOf}
+use Rattle.format.specs.Laws.Lists.{listed-of}
 use Rattle.base.specs.Laws.Lists.{filled-front}
 use Rattle.base.specs.Laws.Lists.{filled-length}
 use Rattle.threshold.specs.AtLeast.{There, number, without, fewer, having, rulesFor, rows, atLeast, eight}

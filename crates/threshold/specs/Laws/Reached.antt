@@ -28,7 +28,7 @@ use Rattle.mask.specs.Laws.Among.{among-same, among-counted}
 use Rattle.engine.specs.Laws.Decide.{slim-iff}
 use Rattle.engine.specs.Laws.Refusals.{refused, list-no}
 use Rattle.base.specs.Lists.{filled}
-use Rattle.reader.specs.File.{recordOf}
+use Rattle.format.specs.Entries.{recordOf}
 use Rattle.threshold.specs.AtLeast.{There, number, plain, atLeast, eight}
 use Rattle.threshold.specs.Laws.Taken.{accepted}
 use Rattle.threshold.specs.Laws.Holds.{holds-iff}

@@ -5,8 +5,8 @@ use Rattle.base.specs.Every.{every, everyBelow}
 use Rattle.policy.specs.Questions.{firstNo, questions, queryInRange, inRange, othersInRange, countsInRange, levelInRange}
 use Rattle.policy.specs.Questions.{actionInRange, ruleInRange, listInRange, listsRise, ruleRises, rises, levelsFit, ruleLevelsFit}
 use Rattle.policy.specs.Questions.{levelsBelow, weightsFit, outweighs, heavier, Accepted}
-use Rattle.reader.specs.File.{recordOf, zeroRule}
-use Rattle.reader.specs.Format.{decisionsOf}
+use Rattle.format.specs.Entries.{recordOf, zeroRule}
+use Rattle.format.specs.Format.{decisionsOf}
 use Rattle.base.specs.Lists.{filled}
 use Rattle.threshold.specs.AtLeast.{decisionsTo, number, without, fewer, having, firstFor, rulesFor, row, rows, plain}
 use Rattle.threshold.specs.AtLeast.{atLeast, eight}

@@ -10,7 +10,7 @@ use Rattle.base.proofs.Every.{Passed, passed-none, passed-more, passed-fails, p
 use Rattle.base.proofs.Tested.{tested-no, tested-yes}
 use Rattle.policy.specs.Questions.{isDecision, isMask}
 use Rattle.policy.proofs.Arrays.{length-mapped}
-use Rattle.reader.specs.File.{zeroQuery}
+use Rattle.format.specs.Entries.{zeroQuery}
 use Rattle.writer.proofs.queries_in_range.Statement.{statement}
 use Rattle.writer.proofs.queries_in_range.Tie as tie
 

@@ -6,6 +6,7 @@ use borrow.Author.Needs.{needs}
 use denote.Ref.{now}
 use lib.ListN.{length, replicate, length-replicate}
 use lib.Seq.{length-take-le}
+use Rattle.format.specs.Bounds.{longestFile}
 use Rattle.policy.specs.Questions.{firstNo, queryInRange}
 use Rattle.engine.specs.Meaning.{AllYes}
 use Rattle.text.specs.Laws.Putting.{Stands, stands, same-length, ends-within, same-text, at-start}
@@ -36,11 +37,11 @@ accepted c = sym (asked (c .before)) ∙ c .if1 .left
 -- the whole file stands in the buffer that `write` has for itself
 file-stands : (c : tie.After-put-file) →
     let a = c .before .before .before .before .before .before .args in
-    Stands (replicate 27294 0) 0 (fileText (a .policy) (a .queries)) (c .put-file .last .0) (c .put-file .result)
+    Stands (replicate longestFile 0) 0 (fileText (a .policy) (a .queries)) (c .put-file .last .0) (c .put-file .result)
 file-stands c =
     let start = c .before .before .before .before .before .before in
     let few = short _ _ (held _ _ (start .good .0) (start .good .1 .0) (accepted (c .before .before))) in
-    stands (c .put-file .ensures) (omega (arith, few, length-replicate {A = ℕ} 27294 0))
+    stands (c .put-file .ensures) (omega (arith, few, length-replicate {A = ℕ} longestFile 0))
 
 -- so what is returned is the length of the file
 end : (c : tie.After-put-file) →

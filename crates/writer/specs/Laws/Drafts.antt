@@ -8,10 +8,11 @@ use lib.ListN.{length}
 use Rattle.base.specs.Laws.Tests.{passes, and-make}
 use Rattle.policy.specs.Questions.{Question, firstNo, questions, inRange, levelsFit, weightsFit}
 use Rattle.policy.specs.Laws.{firstNo-yes}
+use Rattle.format.specs.Bounds.{longestFile}
 use Rattle.reader.specs.File.{draftOf}
 use Rattle.reader.specs.Claim.{DraftStates}
 use Rattle.reader.specs.Laws.Files.{number, drafted}
-use Rattle.reader.specs.Laws.Size.{file-length}
+use Rattle.reader.specs.Laws.Readings.{reading-length}
 use Rattle.reader.specs.Laws.States.{draft-states}
 use Rattle.writer.specs.Writing.{queriesInRange, fileText, writeQuestions}
 use Rattle.writer.specs.Laws.Saved.{queries-range}
@@ -29,8 +30,8 @@ module _ (s : List ℕ) (none : draftOf s .refusal ≡ 0) where
   stated = draft-states s none
 
   -- the file is short
-  pub draft-short : length s ≤ 27294
-  draft-short = rw (drafted s none .text) (file-length (draftOf s) (drafted s none .lines))
+  pub draft-short : length s ≤ longestFile
+  draft-short = rw (drafted s none .text) (reading-length (draftOf s) (drafted s none .lines))
 
   pub draft-asked : (places : ℕ) → length s ≤ places → let r = draftOf s in
       firstNo (writeQuestions (r .policy) (r .queries) places) ≡ number (levelsFit (r .policy)) (weightsFit (r .policy))

@@ -15,9 +15,11 @@ use Rattle.policy.specs.Laws.{Answers, answers, answered-with, firstNo-zero}
 use Rattle.engine.specs.Calls.{refusedOr}
 use Rattle.engine.specs.Meaning.{AllYes}
 use Rattle.engine.specs.Laws.Refusals.{answered}
+use Rattle.format.specs.Bounds.{longestFile}
 use Rattle.reader.specs.declared.Queries.{Queries}
 use Rattle.reader.specs.declared.Reading.{Reading}
-use Rattle.reader.specs.File.{zeroQuery, readOf}
+use Rattle.reader.specs.File.{readOf}
+use Rattle.format.specs.Entries.{zeroQuery}
 use Rattle.reader.specs.Cleared.{clearedReading}
 use Rattle.reader.specs.Claim.{AcceptedFile, DraftStates, States}
 use Rattle.reader.specs.Laws.Back.{file-short, reads-back}
@@ -42,7 +44,7 @@ module _ (p : Policy) (qs : Queries) (ok : AcceptedRecord p qs) where
       let given = known .given in
       is-true _ (entry-at (queryInRange p) zeroQuery (qs .count) (qs .at) (search parts) i less (omega (arith, few, ok .queries)))
 
-  pub short : length (fileText p qs) ≤ 27294
+  pub short : length (fileText p qs) ≤ longestFile
   short = file-short p (qs .count) (qs .at) (ok .policy) (ok .queries) few (is-true _ (known .range)) (is-true _ (known .rise)) each-query
 
   pub reads-written : readOf (fileText p qs) ≡ clearedReading p (qs .count) (qs .at)

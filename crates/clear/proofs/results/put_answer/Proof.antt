@@ -6,7 +6,7 @@ use borrow.Author.Needs.{needs}
 use denote.Ref.{now}
 use lib.ListN.{take}
 use Rattle.engine.specs.declared.Answer.{Answer}
-use Rattle.reader.specs.Written.{lineOf}
+use Rattle.format.specs.Written.{lineOf}
 use Rattle.text.specs.Laws.Putting.{both, same-text}
 use Rattle.clear.specs.declared.results.QueryResult.{QueryResult}
 use Rattle.clear.specs.Printed.{written, answerText}

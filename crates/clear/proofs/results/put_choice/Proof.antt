@@ -1,6 +1,6 @@
 -- `clear::results::put_choice` meets its contract.
 use borrow.Author.Needs.{needs}
-use Rattle.reader.specs.Written.{lineOf}
+use Rattle.format.specs.Written.{lineOf}
 use Rattle.text.specs.Laws.Putting.{both}
 use Rattle.clear.proofs.results.put_choice.Statement.{statement}
 use Rattle.clear.proofs.results.put_choice.Tie as tie

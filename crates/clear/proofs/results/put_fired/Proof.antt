@@ -3,8 +3,8 @@ use mathlib.Core.Path.{_≡_, ap}
 use borrow.Author.Needs.{needs}
 use lib.ListN.{length}
 use Rattle.base.proofs.Every.{front-within, front-length, front-take}
-use Rattle.reader.specs.Text.{ascii}
-use Rattle.reader.specs.Written.{lineOf, commas}
+use Rattle.format.specs.Text.{ascii}
+use Rattle.format.specs.Written.{lineOf, commas}
 use Rattle.text.specs.Laws.Putting.{same-text}
 use Rattle.clear.proofs.results.put_fired.Statement.{statement}
 use Rattle.clear.proofs.results.put_fired.Tie as tie

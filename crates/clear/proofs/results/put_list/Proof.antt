@@ -4,8 +4,8 @@ use mathlib.Core.Path.{ap}
 use borrow.Author.Needs.{needs}
 use denote.Ref.{now}
 use lib.ListN.{take}
-use Rattle.reader.specs.Text.{ascii}
-use Rattle.reader.specs.Written.{lineOf, commas}
+use Rattle.format.specs.Text.{ascii}
+use Rattle.format.specs.Written.{lineOf, commas}
 use Rattle.text.specs.Laws.Putting.{both, same-text}
 use Rattle.clear.proofs.results.put_list.Statement.{statement}
 use Rattle.clear.proofs.results.put_list.Tie as tie

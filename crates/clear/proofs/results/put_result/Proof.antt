@@ -3,7 +3,7 @@ use mathlib.Core.Path.{_∙_}
 use native.Mathlib.Omega.{arith}
 use borrow.Author.Needs.{needs}
 use denote.Ref.{now}
-use Rattle.reader.specs.Written.{lineOf}
+use Rattle.format.specs.Written.{lineOf}
 use Rattle.text.specs.Laws.Putting.{both, same-text, whole}
 use Rattle.clear.specs.Laws.Fits.{text-fits}
 use Rattle.clear.proofs.Texts.{same-result}

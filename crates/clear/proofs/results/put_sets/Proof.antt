@@ -6,7 +6,7 @@ use borrow.Author.Needs.{needs}
 use denote.Ref.{now}
 use lib.ListN.{take}
 use Rattle.base.proofs.Every.{front-take}
-use Rattle.reader.specs.Written.{commas, joined}
+use Rattle.format.specs.Written.{commas, joined}
 use Rattle.text.specs.Put.{Puts}
 use Rattle.text.specs.Laws.Putting.{nothing, same-length, same-text}
 use Rattle.text.specs.Laws.Entries.{one-entry}

@@ -6,7 +6,7 @@ use borrow.Author.Needs.{needs}
 use lib.ListN.{replicate}
 use Rattle.policy.specs.Record.{noAction}
 use Rattle.base.specs.Lists.{filled}
-use Rattle.reader.specs.File.{action}
+use Rattle.format.specs.Entries.{action}
 use Rattle.reader.specs.Laws.Places.{ParsedTimes}
 use Rattle.reader.proofs.Steps.{next, ends, begins, turns, all-turns}
 use Rattle.reader.proofs.entries.read_actions.Statement.{statement}

@@ -3,8 +3,8 @@ use Prim.Native.Nat.{_-_, _≤_}
 use mathlib.Core.Path.{refl}
 use native.Mathlib.Omega.{arith}
 use borrow.Author.Needs.{needs}
-use Rattle.reader.specs.Text.{ascii}
-use Rattle.reader.specs.Format.{numberLine}
+use Rattle.format.specs.Text.{ascii}
+use Rattle.format.specs.Format.{numberLine}
 use Rattle.base.specs.Lists.{filled}
 use Rattle.reader.specs.Laws.Places.{ParsedTimes}
 use Rattle.reader.proofs.Steps.{begins, turns, all-turns}

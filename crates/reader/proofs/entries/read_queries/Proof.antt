@@ -4,7 +4,7 @@ use mathlib.Core.Path.{refl}
 use native.Mathlib.Omega.{arith}
 use borrow.Author.Needs.{needs}
 use Rattle.base.specs.Lists.{filled}
-use Rattle.reader.specs.File.{zeroQuery, query}
+use Rattle.format.specs.Entries.{zeroQuery, query}
 use Rattle.reader.specs.Laws.Places.{ParsedTimes}
 use Rattle.reader.proofs.Steps.{next, ends, begins, turns, all-turns}
 use Rattle.reader.proofs.entries.read_queries.Statement.{statement}

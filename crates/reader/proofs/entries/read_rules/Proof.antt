@@ -5,7 +5,7 @@ use native.Mathlib.Omega.{arith}
 use borrow.Author.Needs.{needs}
 use lib.ListN.{replicate}
 use Rattle.base.specs.Lists.{filled}
-use Rattle.reader.specs.File.{zeroRule, rule}
+use Rattle.format.specs.Entries.{zeroRule, rule}
 use Rattle.reader.specs.Laws.Places.{ParsedTimes}
 use Rattle.reader.proofs.Steps.{next, ends, begins, turns, all-turns}
 use Rattle.reader.proofs.entries.read_rules.Statement.{statement}

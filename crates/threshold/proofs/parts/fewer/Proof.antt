@@ -4,7 +4,7 @@ use mathlib.Core.List.{[], _∷_}
 use mathlib.Core.Path.{ap, _∙_}
 use borrow.Author.Needs.{needs}
 use borrow.Author.Tests.{ne-eqb}
-use Rattle.reader.specs.Format.{decisionsOf}
+use Rattle.format.specs.Format.{decisionsOf}
 use Rattle.threshold.specs.AtLeast.{fewer}
 use Rattle.threshold.proofs.parts.fewer.Statement.{statement}
 use Rattle.threshold.proofs.parts.fewer.Tie as tie

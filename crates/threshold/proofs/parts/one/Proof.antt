@@ -1,6 +1,6 @@
 -- `threshold::parts::one` meets its contract.
 use mathlib.Core.Path.{refl}
-use Rattle.reader.specs.Format.{decisionsOf}
+use Rattle.format.specs.Format.{decisionsOf}
 use Rattle.base.specs.Lists.{filled}
 use Rattle.threshold.proofs.parts.one.Statement.{statement}
 use Rattle.threshold.proofs.parts.one.Tie as tie

@@ -3,7 +3,7 @@ use Prim.Native.Nat.{ℕ}
 use mathlib.Core.List.{[], _∷_}
 use mathlib.Core.Path.{refl, ap, _∙_}
 use borrow.Author.Needs.{needs}
-use Rattle.reader.specs.Format.{decisionsOf}
+use Rattle.format.specs.Format.{decisionsOf}
 use Rattle.threshold.specs.AtLeast.{without}
 use Rattle.threshold.proofs.Made.{made}
 use Rattle.threshold.proofs.parts.without.Statement.{statement}

@@ -1,7 +1,7 @@
 -- `threshold::parts::zero` meets its contract.
 use mathlib.Core.Path.{refl}
 use borrow.Author.Needs.{needs}
-use Rattle.reader.specs.File.{zeroRule}
+use Rattle.format.specs.Entries.{zeroRule}
 use Rattle.threshold.proofs.Made.{made}
 use Rattle.threshold.proofs.parts.zero.Statement.{statement}
 use Rattle.threshold.proofs.parts.zero.Tie as tie

@@ -1,6 +1,6 @@
 -- `put_action` meets its contract: the three lines stand one behind the other.
 use borrow.Author.Needs.{needs}
-use Rattle.reader.specs.Written.{lineOf, actionText}
+use Rattle.format.specs.Written.{lineOf, actionText}
 use Rattle.text.specs.Laws.Putting.{both}
 use Rattle.writer.proofs.file.put_action.Statement.{statement}
 use Rattle.writer.proofs.file.put_action.Tie as tie

@@ -3,7 +3,7 @@ use Prim.Native.Nat.{_-_}
 use native.Mathlib.Omega.{arith}
 use borrow.Author.Needs.{needs}
 use Rattle.policy.specs.Record.{noAction}
-use Rattle.reader.specs.Written.{actionText}
+use Rattle.format.specs.Written.{actionText}
 use Rattle.text.specs.Laws.Putting.{same-length}
 use Rattle.writer.proofs.Texts.{TextsPut, texts-none, texts-more, texts-all}
 use Rattle.writer.proofs.file.put_actions.Statement.{statement}

@@ -3,7 +3,7 @@ use mathlib.Core.Path.{_≡_, ap}
 use borrow.Author.Needs.{needs}
 use lib.ListN.{length}
 use Rattle.base.proofs.Every.{front-within, front-length, front-take}
-use Rattle.reader.specs.Written.{lineOf, each, levelText, entriesText}
+use Rattle.format.specs.Written.{lineOf, each, levelText, entriesText}
 use Rattle.text.specs.Laws.Putting.{both, same-text}
 use Rattle.writer.proofs.file.put_entries.Statement.{statement}
 use Rattle.writer.proofs.file.put_entries.Tie as tie

@@ -1,6 +1,6 @@
 -- `put_file` meets its contract: the lines stand one behind the other.
 use borrow.Author.Needs.{needs}
-use Rattle.reader.specs.Written.{lineOf, fileOf}
+use Rattle.format.specs.Written.{lineOf, fileOf}
 use Rattle.text.specs.Laws.Putting.{both}
 use Rattle.writer.proofs.file.put_file.Statement.{statement}
 use Rattle.writer.proofs.file.put_file.Tie as tie

@@ -2,8 +2,8 @@
 use mathlib.Core.Path.{sym, ap}
 use borrow.Author.Needs.{needs}
 use Rattle.policy.specs.declared.Kind.{Kind}
-use Rattle.reader.specs.Text.{ascii}
-use Rattle.reader.specs.Written.{lineOf, letterOf}
+use Rattle.format.specs.Text.{ascii}
+use Rattle.format.specs.Written.{lineOf, letterOf}
 use Rattle.text.specs.Laws.Putting.{same-text}
 use Rattle.writer.proofs.file.put_kind.Statement.{statement}
 use Rattle.writer.proofs.file.put_kind.Tie as tie

@@ -5,8 +5,8 @@ use borrow.Author.Needs.{needs}
 use denote.Ref.{now}
 use lib.ListN.{length}
 use Rattle.base.proofs.Every.{front-within, front-length, front-take}
-use Rattle.reader.specs.Text.{ascii}
-use Rattle.reader.specs.Written.{commas}
+use Rattle.format.specs.Text.{ascii}
+use Rattle.format.specs.Written.{commas}
 use Rattle.text.specs.Laws.Putting.{same-text}
 use Rattle.writer.proofs.file.put_list.Statement.{statement}
 use Rattle.writer.proofs.file.put_list.Tie as tie

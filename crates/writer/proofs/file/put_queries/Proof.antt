@@ -2,8 +2,8 @@
 use Prim.Native.Nat.{_-_}
 use native.Mathlib.Omega.{arith}
 use borrow.Author.Needs.{needs}
-use Rattle.reader.specs.File.{zeroQuery}
-use Rattle.reader.specs.Written.{queryText}
+use Rattle.format.specs.Entries.{zeroQuery}
+use Rattle.format.specs.Written.{queryText}
 use Rattle.text.specs.Laws.Putting.{same-length}
 use Rattle.writer.proofs.Texts.{TextsPut, texts-none, texts-more, texts-all}
 use Rattle.writer.proofs.file.put_queries.Statement.{statement}

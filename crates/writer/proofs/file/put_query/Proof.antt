@@ -1,6 +1,6 @@
 -- `put_query` meets its contract: the two lines stand one behind the other.
 use borrow.Author.Needs.{needs}
-use Rattle.reader.specs.Written.{lineOf, queryText}
+use Rattle.format.specs.Written.{lineOf, queryText}
 use Rattle.text.specs.Laws.Putting.{both}
 use Rattle.writer.proofs.file.put_query.Statement.{statement}
 use Rattle.writer.proofs.file.put_query.Tie as tie

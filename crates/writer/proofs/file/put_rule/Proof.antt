@@ -1,6 +1,6 @@
 -- `put_rule` meets its contract: the four lines stand one behind the other.
 use borrow.Author.Needs.{needs}
-use Rattle.reader.specs.Written.{lineOf, ruleText}
+use Rattle.format.specs.Written.{lineOf, ruleText}
 use Rattle.text.specs.Laws.Putting.{both}
 use Rattle.writer.proofs.file.put_rule.Statement.{statement}
 use Rattle.writer.proofs.file.put_rule.Tie as tie

@@ -11,8 +11,8 @@ use lib.Dec.{T, T-not, not-T, eqb}
 use mir.Facts.{and-yes, yes-and, or-yes, eqb-yes, eqb-no, yes-eqb, no-eqb, leb-yes, yes-leb}
 use borrow.Author.Tests.{lt-ltb, le-ltb}
 use Rattle.base.specs.Every.{every}
-use Rattle.reader.specs.Text.{decimal, decimalBy}
-use Rattle.reader.specs.Format.{isDigit, isNumber, spelt}
+use Rattle.format.specs.Text.{decimal, decimalBy}
+use Rattle.format.specs.Format.{isDigit, isNumber, spelt}
 use Rattle.base.specs.Laws.Tests.{parts, or-left, or-right}
 use Rattle.base.specs.Laws.Tests.{between-iff, every-both}
 

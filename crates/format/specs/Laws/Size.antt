@@ -1,24 +1,26 @@
--- The longest file: no reading's text is longer than 27,294 bytes.
+-- The longest file: no text of a record is longer than 27,294 bytes.
 use Prim.Native.Nat.{ℕ, _^_, _≤_, _<_}
 use native.Mathlib.Omega.{arith}
 use mathlib.Core.Path.{_≡_, refl}
 use mathlib.Core.List.{List}
-use lib.ListN.{length, length-append}
+use lib.ListN.{length, take, length-append}
 use lib.Pow.{pow-mono}
+use Rattle.base.specs.Laws.All.{All}
+use Rattle.policy.specs.declared.Policy.{Policy}
 use Rattle.policy.specs.declared.Rule.{Rule}
 use Rattle.policy.specs.declared.Query.{Query}
 use Rattle.policy.specs.declared.Action.{Action}
 use Rattle.policy.specs.declared.Kind.{Kind}
 use Rattle.policy.specs.declared.Kind.the-variants.{Provision, Obligation}
 use Rattle.policy.specs.Record.{listed, levelsOf, actionsOf, rulesOf}
-use Rattle.reader.specs.declared.Reading.{Reading}
-use Rattle.reader.specs.Text.{decimal}
-use Rattle.reader.specs.Written.{letterOf, commas, levelText, actionText, ruleText, queryText, entriesText, fileOf}
-use Rattle.reader.specs.Laws.Lists.{fits-parts}
-use Rattle.reader.specs.Laws.Lengths.{decimal-length, line-length, each-length, commas-length}
-use Rattle.reader.specs.Laws.Lists.{ReadableList}
-use Rattle.reader.specs.Laws.Records.{ReadableAction, ReadableRule, ReadableQuery}
-use Rattle.reader.specs.Laws.Readings.{queriesOf, textOf, ReadableLines}
+use Rattle.format.specs.Bounds.{longestFile}
+use Rattle.format.specs.Text.{decimal}
+use Rattle.format.specs.Written.{letterOf, commas, levelText, actionText, ruleText, queryText, entriesText, fileOf}
+use Rattle.format.specs.Laws.Lists.{fits-parts}
+use Rattle.format.specs.Laws.Lengths.{decimal-length, line-length, each-length, commas-length}
+use Rattle.format.specs.Laws.Lists.{ReadableList}
+use Rattle.format.specs.Laws.Records.{ReadableAction, ReadableRule, ReadableQuery}
+use Rattle.format.specs.Laws.Policies.{ReadablePolicy}
 
 -- a list of at most 8 of them
 list-length : (n : ℕ) (ds : List ℕ) → n ≤ 128 → ReadableList n ds → length (commas ds) ≤ 31
@@ -73,15 +75,15 @@ module _ (n m : ℕ) (few : n ≤ 128) (h : m ≤ 16) where
       ))
 
 -- the longest file
-pub file-length : (r : Reading) → ReadableLines r → length (textOf r) ≤ 27294
+pub file-length : (p : Policy) (count : ℕ) (qs : List Query) → ReadablePolicy p → count ≤ 64 → length (take count qs) ≡ count
+    → All (ReadableQuery (p .decisions) (p .actions)) (take count qs) → length (fileOf p count qs) ≤ longestFile
 unfolding fileOf entriesText
-file-length r f =
-    let p = r .policy in
-    let e = f .policy .entries in
+file-length p count qs f few-queries places queries =
+    let e = f .entries in
     let n = p .decisions in
     let m = p .actions in
-    let few = f .policy .few-decisions in
-    let masks = f .policy .few-actions in
+    let few = f .few-decisions in
+    let masks = f .few-actions in
     simp (length-append, line-length) (omega (
       arith,
       few,
@@ -90,13 +92,13 @@ file-length r f =
       e .level-count,
       e .action-count,
       e .rule-count,
-      f .places,
+      places,
       decimal-length 2 n (omega arith),
       decimal-length 1 m (omega arith),
       each-length levelText 9 (levelsOf p) (λ l m. level-length l (e .levels l m)),
       each-length actionText 31 (actionsOf p) (λ a k. action-length n m few masks a (e .action a k)),
       decimal-length 2 (p .rules) (omega (arith, e .few-rules)),
       each-length ruleText 95 (rulesOf p) (λ r k. rule-length n m few masks r (e .rule r k)),
-      decimal-length 1 (r .queries .count) (omega (arith, f .few)),
-      each-length queryText 20 (queriesOf r) (λ q k. query-length n m few masks q (f .queries q k)),
+      decimal-length 1 count (omega (arith, few-queries)),
+      each-length queryText 20 (take count qs) (λ q k. query-length n m few masks q (queries q k)),
     ))

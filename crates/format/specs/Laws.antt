@@ -1,0 +1,11 @@
+-- The lines read their texts and no others; how long a text is; a cleared record answers as the record does.
+pub mod Reads
+pub mod Numbers
+pub mod Lines
+pub mod Lists
+pub mod Records
+pub mod Policies
+pub mod Asked
+pub mod Lengths
+pub mod Size
+pub mod Lookups
