@@ -7,8 +7,8 @@ use lib.ListN.{replicate}
 use Rattle.policy.specs.Record.{noAction}
 use Rattle.base.specs.Lists.{filled}
 use Rattle.format.specs.Entries.{action}
-use Rattle.reader.specs.Laws.Places.{ParsedTimes}
-use Rattle.reader.proofs.Steps.{next, ends, begins, turns, all-turns}
+use Rattle.lines.specs.Places.{ParsedTimes}
+use Rattle.lines.proofs.Steps.{next, ends, begins, turns, all-turns}
 use Rattle.reader.proofs.entries.read_actions.Statement.{statement}
 use Rattle.reader.proofs.entries.read_actions.Tie as tie
 

@@ -6,8 +6,8 @@ use borrow.Author.Needs.{needs}
 use Rattle.format.specs.Text.{ascii}
 use Rattle.format.specs.Format.{numberLine}
 use Rattle.base.specs.Lists.{filled}
-use Rattle.reader.specs.Laws.Places.{ParsedTimes}
-use Rattle.reader.proofs.Steps.{begins, turns, all-turns}
+use Rattle.lines.specs.Places.{ParsedTimes}
+use Rattle.lines.proofs.Steps.{begins, turns, all-turns}
 use Rattle.reader.proofs.entries.read_levels.Statement.{statement}
 use Rattle.reader.proofs.entries.read_levels.Tie as tie
 

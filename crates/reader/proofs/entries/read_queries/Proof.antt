@@ -5,8 +5,8 @@ use native.Mathlib.Omega.{arith}
 use borrow.Author.Needs.{needs}
 use Rattle.base.specs.Lists.{filled}
 use Rattle.format.specs.Entries.{zeroQuery, query}
-use Rattle.reader.specs.Laws.Places.{ParsedTimes}
-use Rattle.reader.proofs.Steps.{next, ends, begins, turns, all-turns}
+use Rattle.lines.specs.Places.{ParsedTimes}
+use Rattle.lines.proofs.Steps.{next, ends, begins, turns, all-turns}
 use Rattle.reader.proofs.entries.read_queries.Statement.{statement}
 use Rattle.reader.proofs.entries.read_queries.Tie as tie
 

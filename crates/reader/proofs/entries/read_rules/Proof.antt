@@ -6,8 +6,8 @@ use borrow.Author.Needs.{needs}
 use lib.ListN.{replicate}
 use Rattle.base.specs.Lists.{filled}
 use Rattle.format.specs.Entries.{zeroRule, rule}
-use Rattle.reader.specs.Laws.Places.{ParsedTimes}
-use Rattle.reader.proofs.Steps.{next, ends, begins, turns, all-turns}
+use Rattle.lines.specs.Places.{ParsedTimes}
+use Rattle.lines.proofs.Steps.{next, ends, begins, turns, all-turns}
 use Rattle.reader.proofs.entries.read_rules.Statement.{statement}
 use Rattle.reader.proofs.entries.read_rules.Tie as tie
 

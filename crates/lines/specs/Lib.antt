@@ -1,0 +1,2 @@
+-- What is read of one line.
+pub mod Places
