@@ -17,10 +17,10 @@ pub fn levels(policy: Policy) -> Levelling
     ensures { λ r. ⌜ r ≡ foundLevels policy ⌝ }
     ensures { λ r. ⌜ FindsLevels policy r ⌝ }
 {
-    if !policy::others_in_range(policy) {
+    if !questions::others_in_range(policy) {
         return raising::refused(3);
     }
-    if !policy::lists_rise(policy) {
+    if !questions::lists_rise(policy) {
         return raising::refused(4);
     }
     raising::lowest(policy)

@@ -46,7 +46,7 @@ pub fn write(policy: Policy, queries: Queries, buffer: &mut [u8]) -> Written
     ensures { λ r. ⌜ Writes policy queries (now (buffer .entry)) (now (buffer .exit)) r ⌝ }
 {
     let queries_fit = queries_in_range(queries, policy.decisions, policy.actions);
-    let refusal = policy::refusal(policy, queries_fit);
+    let refusal = questions::refusal(policy, queries_fit);
     if refusal != 0 {
         return Written::Refused(refusal);
     }

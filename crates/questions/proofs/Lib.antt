@@ -1,0 +1,2 @@
+-- Laws that several of the proofs cite.
+pub mod Asked

@@ -1,0 +1,42 @@
+-- `actions::fit` meets its contract: each of the first a actions outweighs the actions of its also mask.
+use Prim.Native.Nat.{_-_}
+use native.Mathlib.Omega.{arith}
+use borrow.Author.Needs.{needs}
+use Rattle.base.proofs.Every.{Passed, passed-none, passed-more, passed-fails, passed-all}
+use Rattle.base.proofs.Tested.{tested-no, tested-yes}
+use Rattle.policy.specs.Record.{noAction}
+use Rattle.policy.specs.Questions.{outweighs}
+use Rattle.questions.proofs.actions.fit.Statement.{statement}
+use Rattle.questions.proofs.actions.fit.Tie as tie
+
+abbrev Inv-loop : tie.InvT-loop
+Inv-loop count action end a₀ a = Passed (outweighs action count) action 16 end a
+
+abbrev μ-loop : tie.MeasureT-loop
+μ-loop count action end a₀ a = end - a
+
+loop-holds : tie.Need-loop-holds Inv-loop μ-loop
+loop-holds c = passed-none (search needs) (omega arith)
+
+returns : tie.Need-returns Inv-loop μ-loop
+returns c =
+    let top = c .before .before .before .before in
+    passed-fails (top .loop .inv) noAction _ (top .before .smaller .ensures) (omega arith)
+    (tested-no (c .before .outweighs .ensures) (c .if1 .taken))
+
+loop-again : tie.Need-loop-again Inv-loop μ-loop
+loop-again c =
+    let top = c .before .before .before .before in
+    passed-more (top .loop .inv) noAction (omega arith) (tested-yes (c .before .outweighs .ensures) (c .if1 .left))
+
+returns-2 : tie.Need-returns-2 Inv-loop μ-loop
+returns-2 c =
+    let top = c .before in
+    passed-all (top .loop .inv) _ (top .before .smaller .ensures) (c .loop-test .left)
+
+pub fit-spec : {M : Type 1} → statement M
+fit-spec =
+    tie.close
+    (tie.spec
+    Inv-loop μ-loop (λ c κs. search needs) loop-holds (λ c. search needs) (λ c. search needs) (λ c κs. search needs) returns
+    (λ c. search needs) (λ c. search needs) loop-again returns-2)
