@@ -8,11 +8,10 @@ use native.Mathlib.Decide.{le-ind}
 use native.Mathlib.Nat.{le-refl, le-antisymm}
 use native.Mathlib.Numerals.{add-one}
 use native.Mathlib.Omega.{arith}
-use borrow.Author.Tests.{lt-ltb, le-ltb}
 use lib.Count.{ones, ones-le}
 use Rattle.mask.specs.Family.{lighter, lightest}
 use Rattle.keep.specs.Keep.{foundOr0}
-use Rattle.mask.specs.Laws.Lightest.{lightest-skip, lightest-more}
+use Rattle.mask.specs.Laws.Lightest.{lighter-none, lighter-new, lighter-old, lightest-skip, lightest-more}
 
 -- the mask and its ones stand for what is found: 0 and 17 for nothing
 pub data Stands : ℕ → ℕ → Option ℕ → Type 0 where
@@ -20,15 +19,13 @@ pub data Stands : ℕ → ℕ → Option ℕ → Type 0 where
   named : (b : ℕ) → Stands b (ones b) (some b)
 
 stands-new : {best least : ℕ} {o : Option ℕ} → Stands best least o → (n : ℕ) → ones n < least → Stands n (ones n) (lighter ones o n)
-unfolding lighter
-stands-new nothing n h = named n
-stands-new (named b) n h = rw (lt-ltb (ones n) (ones b) h) (named n)
+stands-new nothing n h = rw (lighter-none ones n) (named n)
+stands-new (named b) n h = rw (lighter-new ones n b h) (named n)
 
 stands-old : {best least : ℕ} {o : Option ℕ} → Stands best least o → (n : ℕ) → n < 2 ^ 16 → least ≤ ones n
     → Stands best least (lighter ones o n)
-unfolding lighter
 stands-old nothing n l h = absurd (omega (arith, ones-le 16 n l))
-stands-old (named b) n l h = rw (le-ltb (ones n) (ones b) h) (named b)
+stands-old (named b) n l h = rw (lighter-old ones n b h) (named b)
 
 stands-is : {best least : ℕ} {o : Option ℕ} → Stands best least o → best ≡ foundOr0 o
 unfolding foundOr0

@@ -1,13 +1,15 @@
 -- There are at most 12,870 slim sets: none is a subset of another, and there are at most 16 actions. At most 128 rules fire.
-use Prim.Native.Nat.{ℕ, zero, suc, _-_, _/_, _^_, _≤_, zero-le}
+use Prim.Native.Nat.{ℕ, zero, suc, _/_, _^_, _≤_, zero-le}
 use mathlib.Core.Bool.{Bool, true, false}
-use mathlib.Core.List.{List, [], _++_}
+use mathlib.Core.List.{List, []}
 use mathlib.Core.Path.{_≡_, refl, sym, _∙_}
 use native.Mathlib.Decide.{ℕ-discrete}
 use native.Mathlib.Omega.{arith}
-use lib.ListN.{length, replicate, length-append, length-replicate}
+use lib.ListN.{length, replicate, length-replicate}
 use Rattle.mask.specs.Mask.{sized}
 use Rattle.base.specs.Counted.{counted}
+use Rattle.base.specs.Lists.{filled}
+use Rattle.base.specs.Laws.Lists.{filled-length}
 use Rattle.mask.specs.Laws.Sperner.{Antichain, sperner, middle-few}
 use Rattle.policy.specs.declared.Policy.{Policy}
 use Rattle.policy.specs.declared.Query.{Query}
@@ -86,9 +88,9 @@ fire-places p q s = go (firstNo (offerQuestions p q s)) (λ e. few-fired p q (of
     fired = firedFor p q s
 
     answer : Firing
-    answer = record { refusal = 0; count = length fired; rules = fired ++ replicate (128 - length fired) 0 }
+    answer = record { refusal = 0; count = length fired; rules = filled 128 0 fired }
 
     go : (n : ℕ) → (n ≡ 0 → length fired ≤ 128)
         → length (refusedOr n (λ n. record { refusal = n; count = 0; rules = replicate 128 0 }) answer .rules) ≡ 128
-    go zero few = length-append fired (replicate (128 - length fired) 0) ∙ rw length-replicate (omega (arith, few refl))
+    go zero few = filled-length 128 0 fired (few refl)
     go (suc n) few = length-replicate {A = ℕ} 128 0

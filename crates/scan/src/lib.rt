@@ -1,17 +1,21 @@
-// The rules that fire in a world, until the wanted decision is held.
+// The rules that fire in the world of a set, until the wanted decision is held. For the engine alone: it has asked the questions that
+// these functions require.
 ghost use mathlib.Core.Path.{_≡_};
-ghost use mathlib.Core.List.{_++_};
-ghost use Prim.Native.Nat.{_-_, _<_};
-ghost use lib.ListN.{length, replicate};
+ghost use Prim.Native.Nat.{_<_};
+ghost use lib.ListN.{length};
+ghost use Rattle.base.specs.Lists.{filled};
 ghost use Rattle.policy.specs.Record.{listed};
+ghost use Rattle.policy.specs.Questions.{Accepted};
 ghost use Rattle.policy.specs.Laws.{ListFits, RuleFits, InRange};
+ghost use Rattle.model.specs.Clears.{firedFor};
 ghost use Rattle.model.specs.Fire.{allHeld, noneHeld, canFire, firedOf};
 use policy::Decisions;
 use policy::Policy;
+use policy::Query;
 use policy::Rule;
 
 // The rules that fired, in order: `count` of them, and zeros behind them.
-pub struct Fired {
+pub struct FiredRules {
     pub count: u8,
     pub rules: [u8; 128],
 }
@@ -49,7 +53,7 @@ fn none_held(held: &[bool; 128], list: Decisions) -> bool
 }
 
 // The rule can fire: its head is not held yet, and the world and the marks are as it asks.
-fn fires(rule: Rule, held: &[bool; 128], world: u16) -> bool
+fn can_fire(rule: Rule, held: &[bool; 128], world: u16) -> bool
     requires { ⌜ RuleFits 128 16 rule ⌝ }
     ensures { λ r. ⌜ r ≡ canFire (now (held .entry)) world rule ⌝ }
 {
@@ -70,11 +74,11 @@ fn fires(rule: Rule, held: &[bool; 128], world: u16) -> bool
 
 // The rules that fire until `want` is held, level by level, in passes over the rules; none where it is never held.
 // No rule of a higher level than want's has the head `want`, so those levels are left out.
-pub(crate) fn scan(policy: Policy, want: u8, world: u16) -> Fired
+fn scan(policy: Policy, want: u8, world: u16) -> FiredRules
     requires { ⌜ InRange policy ⌝ }
     requires { ⌜ want < policy .decisions ⌝ }
     ensures { λ r. ⌜ r .count ≡ length (firedOf policy world want) ⌝ }
-    ensures { λ r. ⌜ r .rules ≡ firedOf policy world want ++ replicate (128 - length (firedOf policy world want)) 0 ⌝ }
+    ensures { λ r. ⌜ r .rules ≡ filled 128 0 (firedOf policy world want) ⌝ }
 {
     let mut held = [false; 128];
     let mut fired = [0u8; 128];
@@ -88,7 +92,7 @@ pub(crate) fn scan(policy: Policy, want: u8, world: u16) -> Fired
             'rules: for k in 0..rules {
                 let rule = policy.rule[k];
                 let head = rule.head as usize;
-                if policy.level[head] == level && fires(rule, &held, world) {
+                if policy.level[head] == level && can_fire(rule, &held, world) {
                     held[head] = true;
                     fired[n] = k as u8;
                     n += 1;
@@ -104,14 +108,25 @@ pub(crate) fn scan(policy: Policy, want: u8, world: u16) -> Fired
     }
     if held[goal] {
         let count = n as u8;
-        Fired {
+        FiredRules {
             count,
             rules: fired,
         }
     } else {
-        Fired {
+        FiredRules {
             count: 0,
             rules: [0u8; 128],
         }
     }
+}
+
+// The rules that fire in the world of the set.
+pub fn fired(policy: Policy, query: Query, set: u16) -> FiredRules
+    requires { ⌜ Accepted policy query ⌝ }
+    ensures { λ r. ⌜ r .count ≡ length (firedFor policy query set) ⌝ }
+    ensures { λ r. ⌜ r .rules ≡ filled 128 0 (firedFor policy query set) ⌝ }
+{
+    let action = policy.action;
+    let world = model::world(action, policy.actions, query.done, set);
+    scan(policy, query.want, world)
 }

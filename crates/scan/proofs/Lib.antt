@@ -1,0 +1,3 @@
+-- The arrays and the loops of the scan.
+pub mod Arrays
+pub mod Loops
