@@ -6,13 +6,13 @@ use mathlib.Core.Path.{_≡_, sym, _∙_, ap}
 use native.Mathlib.Omega.{arith}
 use borrow.Author.Needs.{needs}
 use Rattle.covers.specs.Covers.{Marks}
-use Rattle.engine.specs.declared.survey.Found.{Found}
+use Rattle.survey.specs.declared.Found.{Found}
 use Rattle.weight.specs.Cost.{weighed}
-use Rattle.engine.specs.Laws.Weighing.{Weighed}
-use Rattle.engine.specs.Laws.Slims.{marks-zero}
-use Rattle.engine.proofs.Surveyed.{more-slim, weighed-at, weighed-idle, weighed-skip, weighed-more}
-use Rattle.engine.proofs.survey.weigh.Statement.{statement}
-use Rattle.engine.proofs.survey.weigh.Tie as tie
+use Rattle.survey.specs.Survey.{Weighed}
+use Rattle.survey.specs.Laws.Slims.{marks-zero}
+use Rattle.survey.proofs.Surveyed.{weighed-at, weighed-idle, weighed-skip, weighed-more}
+use Rattle.survey.proofs.weigh.Statement.{statement}
+use Rattle.survey.proofs.weigh.Tie as tie
 
 abbrev Inv-loop : tie.InvT-loop
 Inv-loop action actions w word all₀ i₀ all i = (i ≤ 64) × (all .slim ≤ 64 * w + i)
@@ -48,12 +48,12 @@ loop-again c =
     let next : i + 1 ≤ 64 = omega arith in
     ⊎-elim
     (λ v.
-    let counted : c .if2 .all .slim ≡ top .loop .all .slim + 1 = ap (λ (f : Found). f .slim) (v .3 ∙ v .2 .ensures) ∙ more-slim _ _ _ in (
+    let counted : c .if2 .all .slim ≡ top .loop .all .slim + 1 = ap (λ (f : Found). f .slim) (v .3) ∙ v .2 .ensures .slim in (
       next,
       omega (arith, inv .1, counted),
       λ takes marks so.
           let slim = sym (marks .bits i (omega arith)) ∙ sym has ∙ v .0 .taken in
-          rw (v .3 ∙ v .2 .ensures, v .1 .ensures) (weighed-at (weighed-more (inv .2 takes marks so) slim) (omega arith)),
+          rw (v .3) (weighed-at (weighed-more (inv .2 takes marks so) slim (sym (v .1 .ensures)) (v .2 .ensures)) (omega arith)),
     ))
     (λ v. (
       next,

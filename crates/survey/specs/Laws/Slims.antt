@@ -1,4 +1,4 @@
--- The survey by words: the family of the sets that clear, and its minimal members, which are the slim sets.
+-- The survey by words: the sets that clear, and the minimal ones, which are the slim sets.
 use Prim.Native.Nat.{ℕ, _+_, _-_, _*_, _/_, _%_, _^_, _≤_, _<_}
 use mathlib.Core.Bool.{Bool, true, false, _&&_, not}
 use mathlib.Core.List.{List}
@@ -23,8 +23,10 @@ use Rattle.words.specs.Laws.Wanted.{wanted-bit}
 use Rattle.covers.specs.Covers.{wordsOf, Marks, Table, Members, markedIn}
 use Rattle.covers.specs.Laws.Marks.{table-marked}
 use Rattle.weight.specs.Cost.{costOf}
-use Rattle.engine.specs.Calls.{clears, slim, slimSets}
+use Rattle.model.specs.Clears.{clears}
+use Rattle.weight.specs.Slim.{slim, slimSets}
 use Rattle.mask.specs.Laws.Among.{among-idle, among-same}
+use Rattle.survey.specs.Survey.{family}
 
 -- a table marks the sets of its words
 pub table-marks : (table : List ℕ) (w : ℕ) → Marks (markedIn table) w (getD table w 0)
@@ -45,47 +47,44 @@ marks-zero {takes} {w} marks e s h l =
     ∙ is-false (has 0 (s - 64 * w)) (has-none (s - 64 * w))
 
 module _ (p : Policy) (q : Query) where
-  -- the sets of the policy's actions that clear
-  unfoldable pub family : ℕ → Bool
-  family s = ltb s (2 ^ p .actions) && clears p q s
-
-  family-in : (s : ℕ) → s < 2 ^ p .actions → family s ≡ clears p q s
+  -- a set of the policy's actions is in the family where it clears
+  family-in : (s : ℕ) → s < 2 ^ p .actions → family p q s ≡ clears p q s
   unfolding family
   family-in s h = ap (λ (b : Bool). b && clears p q s) (lt-ltb s (2 ^ p .actions) h)
 
-  -- its minimal members are the slim sets
-  slim-in : (s : ℕ) → s < 2 ^ p .actions → minimal family s ≡ slim p q s
+  -- the minimal members of the family are the slim sets
+  slim-in : (s : ℕ) → s < 2 ^ p .actions → minimal (family p q) s ≡ slim p q s
   unfolding minimal takenWithin slim
-  slim-in s h = ap (λ (b : Bool). b && not (takenWithin family s s)) (family-in s h)
-      ∙ ap (λ (b : Bool). clears p q s && not b) (someBelow-same s (λ t. contains s t && family t) (λ t. contains s t && clears p q t)
+  slim-in s h = ap (λ (b : Bool). b && not (takenWithin (family p q) s s)) (family-in s h)
+      ∙ ap (λ (b : Bool). clears p q s && not b) (someBelow-same s (λ t. contains s t && family p q t) (λ t. contains s t && clears p q t)
       (λ t k. ap (λ (b : Bool). contains s t && b) (family-in t (omega arith))))
 
-  slim-past : (s : ℕ) → 2 ^ p .actions ≤ s → minimal family s ≡ false
+  slim-past : (s : ℕ) → 2 ^ p .actions ≤ s → minimal (family p q) s ≡ false
   unfolding minimal family
-  slim-past s h = ap (λ (b : Bool). (b && clears p q s) && not (takenWithin family s s))
+  slim-past s h = ap (λ (b : Bool). (b && clears p q s) && not (takenWithin (family p q) s s))
       (is-false (ltb s (2 ^ p .actions)) (λ t. omega (arith, ltb→lt s (2 ^ p .actions) t)))
 
   module _ (n : ℕ) (past : 2 ^ p .actions ≤ n) where
     -- up to any number past the last
-    pub slims-all : among (minimal family) n ≡ slimSets p q
+    pub slims-all : among (minimal (family p q)) n ≡ slimSets p q
     unfolding slimSets
-    slims-all = among-idle (minimal family) (2 ^ p .actions) n past (λ s h l. slim-past s h)
-        ∙ among-same (minimal family) (slim p q) (2 ^ p .actions) slim-in
+    slims-all = among-idle (minimal (family p q)) (2 ^ p .actions) n past (λ s h l. slim-past s h)
+        ∙ among-same (minimal (family p q)) (slim p q) (2 ^ p .actions) slim-in
 
-    pub lightest-all : lightest (minimal family) (costOf p) n ≡ lightest (slim p q) (costOf p) (2 ^ p .actions)
-    lightest-all = lightest-idle (minimal family) (costOf p) (2 ^ p .actions) n past (λ s h l. slim-past s h)
-        ∙ lightest-same (minimal family) (slim p q) (costOf p) (costOf p) (2 ^ p .actions) slim-in (λ s. refl)
+    pub lightest-all : lightest (minimal (family p q)) (costOf p) n ≡ lightest (slim p q) (costOf p) (2 ^ p .actions)
+    lightest-all = lightest-idle (minimal (family p q)) (costOf p) (2 ^ p .actions) n past (λ s h l. slim-past s h)
+        ∙ lightest-same (minimal (family p q)) (slim p q) (costOf p) (costOf p) (2 ^ p .actions) slim-in (λ s. refl)
 
   -- and so are the sets that the table of the minimal members marks
-  pub slims-marked : (table : List ℕ) → Table (minimal family) (wordsOf (p .actions)) table
+  pub slims-marked : (table : List ℕ) → Table (minimal (family p q)) (wordsOf (p .actions)) table
       → among (markedIn table) (64 * wordsOf (p .actions)) ≡ slimSets p q
   slims-marked table so =
-      among-same (markedIn table) (minimal family) (64 * wordsOf (p .actions)) (λ s h. table-marked so s h)
+      among-same (markedIn table) (minimal (family p q)) (64 * wordsOf (p .actions)) (λ s h. table-marked so s h)
       ∙ slims-all (64 * wordsOf (p .actions)) (omega arith)
 
   -- ---- the members among the sets of a word
   -- where all are covered without one of their upper actions, none need be known
-  pub members-none : (w low word : ℕ) → low ≡ allSets → word ≡ 0 → Members family w low word
+  pub members-none : (w low word : ℕ) → low ≡ allSets → word ≡ 0 → Members (family p q) w low word
   members-none w low word l e = record {
     only = λ i s t. absurd (has-none i (subst (λ (x : ℕ). T (has x i)) e t));
     all = λ i s t apart. absurd (T-not (has low i) apart
@@ -94,11 +93,11 @@ module _ (p : Policy) (q : Query) where
 
   module _ (ok : Accepted p q) where
     -- the word of the decision wanted has the family's
-    family-bit : (w i : ℕ) → i < 64 → has (wordOf p q w (q .want)) i ≡ family (setAt w i)
+    family-bit : (w i : ℕ) → i < 64 → has (wordOf p q w (q .want)) i ≡ family p q (setAt w i)
     unfolding family
     family-bit w i k = wanted-bit p q ok w i k
 
-    pub members-wanted : (w low word : ℕ) → word ≡ wordOf p q w (q .want) → Members family w low word
+    pub members-wanted : (w low word : ℕ) → word ≡ wordOf p q w (q .want) → Members (family p q) w low word
     members-wanted w low word e = record {
       only = λ i s t. subst T (ap (λ (x : ℕ). has x i) e ∙ family-bit w i s) t;
       all = λ i s t apart. subst T (sym (ap (λ (x : ℕ). has x i) e ∙ family-bit w i s)) t;
