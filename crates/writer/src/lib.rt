@@ -4,13 +4,11 @@ ghost use mathlib.Core.Path.{_≡_};
 ghost use lib.Dec.{leb};
 ghost use lib.ListN.{length, take};
 ghost use Rattle.base.specs.Every.{every};
-ghost use Rattle.policy.specs.Questions.{isDecision, isMask};
+ghost use Rattle.policy.specs.Questions.{isQuery};
 ghost use Rattle.writer.specs.Writing.{writeOf, writeAfter, Writes};
 use format::LONGEST_FILE;
 use policy::Policy;
 use reader::Queries;
-
-mod file;
 
 // What write answers: the number of the question answered no, or the length of the file written.
 pub enum Written {
@@ -20,8 +18,7 @@ pub enum Written {
 
 // Question 3 of the queries, where there are so many decisions and actions: are they at most 64, and each in range?
 fn queries_in_range(queries: Queries, decisions: u8, actions: u8) -> bool
-    ensures { λ r. ⌜ r ≡ (leb (queries .count) 64
-        && every (λ q. isDecision decisions (q .want) && isMask actions (q .done)) (take (queries .count) (queries .at))) ⌝ }
+    ensures { λ r. ⌜ r ≡ (leb (queries .count) 64 && every (isQuery decisions actions) (take (queries .count) (queries .at))) ⌝ }
 {
     if queries.count > 64 {
         return false;
@@ -51,7 +48,7 @@ pub fn write(policy: Policy, queries: Queries, buffer: &mut [u8]) -> Written
         return Written::Refused(refusal);
     }
     let mut whole = [0u8; LONGEST_FILE];
-    let end = file::put_file(&mut whole, policy, queries);
+    let end = records::put_file(&mut whole, policy, queries);
     if buffer.len() < end {
         return Written::Refused(10);
     }

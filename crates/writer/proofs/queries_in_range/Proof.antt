@@ -2,20 +2,19 @@
 use Prim.Native.Nat.{_-_}
 use native.Mathlib.Nat.{min-eq-left}
 use native.Mathlib.Omega.{arith}
-use mathlib.Core.Bool.{_&&_}
 use mathlib.Core.Path.{sym}
 use borrow.Author.Needs.{needs}
 use borrow.Author.Tests.{le-leb, lt-leb}
 use Rattle.base.proofs.Every.{Passed, passed-none, passed-more, passed-fails, passed-all}
 use Rattle.base.proofs.Tested.{tested-no, tested-yes}
-use Rattle.policy.specs.Questions.{isDecision, isMask}
+use Rattle.policy.specs.Questions.{isQuery}
 use Rattle.policy.proofs.Arrays.{length-mapped}
 use Rattle.format.specs.Entries.{zeroQuery}
 use Rattle.writer.proofs.queries_in_range.Statement.{statement}
 use Rattle.writer.proofs.queries_in_range.Tie as tie
 
 abbrev Inv-loop : tie.InvT-loop
-Inv-loop decisions actions query count i₀ i = Passed (λ q. isDecision decisions (q .want) && isMask actions (q .done)) query 64 count i
+Inv-loop decisions actions query count i₀ i = Passed (isQuery decisions actions) query 64 count i
 
 abbrev μ-loop : tie.MeasureT-loop
 μ-loop decisions actions query count i₀ i = count - i

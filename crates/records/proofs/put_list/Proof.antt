@@ -8,8 +8,8 @@ use Rattle.base.proofs.Every.{front-within, front-length, front-take}
 use Rattle.format.specs.Text.{ascii}
 use Rattle.format.specs.Written.{commas}
 use Rattle.text.specs.Laws.Putting.{same-text}
-use Rattle.writer.proofs.file.put_list.Statement.{statement}
-use Rattle.writer.proofs.file.put_list.Tie as tie
+use Rattle.records.proofs.put_list.Statement.{statement}
+use Rattle.records.proofs.put_list.Tie as tie
 
 -- the list has 8 places
 long : (c : tie.Start) → length (c .args .list .at) ≡ 8

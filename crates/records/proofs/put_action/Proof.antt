@@ -2,8 +2,8 @@
 use borrow.Author.Needs.{needs}
 use Rattle.format.specs.Written.{lineOf, actionText}
 use Rattle.text.specs.Laws.Putting.{both}
-use Rattle.writer.proofs.file.put_action.Statement.{statement}
-use Rattle.writer.proofs.file.put_action.Tie as tie
+use Rattle.records.proofs.put_action.Statement.{statement}
+use Rattle.records.proofs.put_action.Tie as tie
 
 returns : tie.Need-returns
 unfolding actionText lineOf

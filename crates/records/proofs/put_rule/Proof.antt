@@ -2,8 +2,8 @@
 use borrow.Author.Needs.{needs}
 use Rattle.format.specs.Written.{lineOf, ruleText}
 use Rattle.text.specs.Laws.Putting.{both}
-use Rattle.writer.proofs.file.put_rule.Statement.{statement}
-use Rattle.writer.proofs.file.put_rule.Tie as tie
+use Rattle.records.proofs.put_rule.Statement.{statement}
+use Rattle.records.proofs.put_rule.Tie as tie
 
 returns : tie.Need-returns
 unfolding ruleText lineOf

@@ -5,9 +5,9 @@ use borrow.Author.Needs.{needs}
 use Rattle.format.specs.Entries.{zeroQuery}
 use Rattle.format.specs.Written.{queryText}
 use Rattle.text.specs.Laws.Putting.{same-length}
-use Rattle.writer.proofs.Texts.{TextsPut, texts-none, texts-more, texts-all}
-use Rattle.writer.proofs.file.put_queries.Statement.{statement}
-use Rattle.writer.proofs.file.put_queries.Tie as tie
+use Rattle.records.proofs.Texts.{TextsPut, texts-none, texts-more, texts-all}
+use Rattle.records.proofs.put_queries.Statement.{statement}
+use Rattle.records.proofs.put_queries.Tie as tie
 
 abbrev Inv-loop : tie.InvT-loop
 Inv-loop buffer₀ at count query end end₀ i₀ buffer last i = TextsPut queryText query 64 end buffer₀ at i buffer last

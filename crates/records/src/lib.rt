@@ -1,5 +1,5 @@
-// The file of a policy and its queries, put line by line into a lent buffer behind its first `at` bytes. Each function returns
-// where its text ends; bytes that do not fit are dropped.
+// The lines of a policy and its queries, put into a lent buffer behind its first `at` bytes. Each function returns where its
+// text ends; bytes that do not fit are dropped.
 ghost use mathlib.Core.List.{_++_};
 ghost use lib.ListN.{take};
 ghost use Rattle.policy.specs.Record.{listed};
@@ -126,7 +126,7 @@ fn put_entries(buffer: &mut [u8], at: usize, policy: Policy) -> usize
 }
 
 // Puts the whole file at the start of the buffer.
-pub(crate) fn put_file(buffer: &mut [u8], policy: Policy, queries: Queries) -> usize
+pub fn put_file(buffer: &mut [u8], policy: Policy, queries: Queries) -> usize
     ensures { λ r. ⌜ Puts (now (buffer .entry)) 0 (fileOf policy (queries .count) (queries .at)) (now (buffer .exit)) r ⌝ }
 {
     let query = queries.at;

@@ -5,8 +5,8 @@ use Rattle.policy.specs.declared.Kind.{Kind}
 use Rattle.format.specs.Text.{ascii}
 use Rattle.format.specs.Written.{lineOf, letterOf}
 use Rattle.text.specs.Laws.Putting.{same-text}
-use Rattle.writer.proofs.file.put_kind.Statement.{statement}
-use Rattle.writer.proofs.file.put_kind.Tie as tie
+use Rattle.records.proofs.put_kind.Statement.{statement}
+use Rattle.records.proofs.put_kind.Tie as tie
 
 returns : tie.Need-returns
 unfolding lineOf letterOf

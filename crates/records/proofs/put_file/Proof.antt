@@ -2,8 +2,8 @@
 use borrow.Author.Needs.{needs}
 use Rattle.format.specs.Written.{lineOf, fileOf}
 use Rattle.text.specs.Laws.Putting.{both}
-use Rattle.writer.proofs.file.put_file.Statement.{statement}
-use Rattle.writer.proofs.file.put_file.Tie as tie
+use Rattle.records.proofs.put_file.Statement.{statement}
+use Rattle.records.proofs.put_file.Tie as tie
 
 returns : tie.Need-returns
 unfolding fileOf lineOf

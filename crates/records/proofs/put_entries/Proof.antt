@@ -5,8 +5,8 @@ use lib.ListN.{length}
 use Rattle.base.proofs.Every.{front-within, front-length, front-take}
 use Rattle.format.specs.Written.{lineOf, each, levelText, entriesText}
 use Rattle.text.specs.Laws.Putting.{both, same-text}
-use Rattle.writer.proofs.file.put_entries.Statement.{statement}
-use Rattle.writer.proofs.file.put_entries.Tie as tie
+use Rattle.records.proofs.put_entries.Statement.{statement}
+use Rattle.records.proofs.put_entries.Tie as tie
 
 -- the levels have 128 places
 long : (c : tie.Start) → length (c .args .policy .level) ≡ 128

@@ -2,8 +2,8 @@
 use borrow.Author.Needs.{needs}
 use Rattle.format.specs.Written.{lineOf, queryText}
 use Rattle.text.specs.Laws.Putting.{both}
-use Rattle.writer.proofs.file.put_query.Statement.{statement}
-use Rattle.writer.proofs.file.put_query.Tie as tie
+use Rattle.records.proofs.put_query.Statement.{statement}
+use Rattle.records.proofs.put_query.Tie as tie
 
 returns : tie.Need-returns
 unfolding queryText lineOf
