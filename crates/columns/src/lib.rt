@@ -6,6 +6,10 @@ ghost use Rattle.mask.specs.Mask.{has};
 ghost use Rattle.base.specs.Lists.{table};
 ghost use Rattle.columns.specs.Sets.{columnOf, isShut, offeredOf, holdingOf, gathered, fourOf, foursOf, neededOf};
 use policy::Action;
+use policy::MOST_ACTIONS;
+
+// The words that have every set of 16 actions.
+pub const WORDS: usize = 1024;
 
 // Every set.
 const ALL: u64 = 0xFFFFFFFFFFFFFFFF;
@@ -54,7 +58,7 @@ pub fn offered(actions: u8, done: u16, w: u16) -> u64
     ensures { λ r. ⌜ r ≡ offeredOf actions done w ⌝ }
 {
     let mut sets = ALL;
-    for a in 0..16usize {
+    for a in 0..MOST_ACTIONS {
         if shut(a, actions, done) {
             sets = sets ^ (sets & column(a, w));
         }
@@ -67,7 +71,7 @@ pub fn holding(set: u16, w: u16) -> u64
     ensures { λ r. ⌜ r ≡ holdingOf set w ⌝ }
 {
     let mut sets = ALL;
-    for a in 0..16usize {
+    for a in 0..MOST_ACTIONS {
         if mask::has(set, a) {
             sets = sets & column(a, w);
         }
@@ -76,22 +80,22 @@ pub fn holding(set: u16, w: u16) -> u64
 }
 
 // What each action leads to by itself.
-pub fn reach(action: [Action; 16], actions: u8) -> [u16; 16]
+pub fn reach(action: [Action; MOST_ACTIONS], actions: u8) -> [u16; MOST_ACTIONS]
     ensures { λ r. ⌜ r ≡ table 16 (λ a. worldIn action actions 0 (2 ^ a)) ⌝ }
 {
-    let mut leads = [0u16; 16];
-    for a in 0..16usize {
+    let mut leads = [0u16; MOST_ACTIONS];
+    for a in 0..MOST_ACTIONS {
         leads[a] = model::world(action, actions, 0, 1u16 << a);
     }
     leads
 }
 
 // The sets whose world has action b: `base` is in every world, and action a leads to `leads[a]`.
-fn world_of(base: u16, leads: &[u16; 16], w: u16, b: usize) -> u64
+fn world_of(base: u16, leads: &[u16; MOST_ACTIONS], w: u16, b: usize) -> u64
     ensures { λ r. ⌜ r ≡ gathered base (now (leads .entry)) w b ⌝ }
 {
     let mut word = if mask::has(base, b) { ALL } else { 0 };
-    for a in 0..16usize {
+    for a in 0..MOST_ACTIONS {
         if mask::has(leads[a], b) {
             word = word | column(a, w);
         }
@@ -100,18 +104,18 @@ fn world_of(base: u16, leads: &[u16; 16], w: u16, b: usize) -> u64
 }
 
 // The same for each action.
-fn worlds(base: u16, leads: &[u16; 16], w: u16) -> [u64; 16]
+fn worlds(base: u16, leads: &[u16; MOST_ACTIONS], w: u16) -> [u64; MOST_ACTIONS]
     ensures { λ r. ⌜ r ≡ table 16 (gathered base (now (leads .entry)) w) ⌝ }
 {
-    let mut world = [0u64; 16];
-    for b in 0..16usize {
+    let mut world = [0u64; MOST_ACTIONS];
+    for b in 0..MOST_ACTIONS {
         world[b] = world_of(base, leads, w, b);
     }
     world
 }
 
 // The sets whose world has the actions of the mask v, of the four actions from 4 z on.
-fn four(world: &[u64; 16], z: usize, v: u16) -> u64
+fn four(world: &[u64; MOST_ACTIONS], z: usize, v: u16) -> u64
     requires { ⌜ z < 4 ⌝ }
     ensures { λ r. ⌜ r ≡ fourOf (now (world .entry)) z v ⌝ }
 {
@@ -125,7 +129,7 @@ fn four(world: &[u64; 16], z: usize, v: u16) -> u64
 }
 
 // The same for each four actions and each mask v of them, at 16 z + v: `needed` has four looks for a rule, and not 16.
-pub fn fours(base: u16, leads: &[u16; 16], w: u16) -> [u64; 64]
+pub fn fours(base: u16, leads: &[u16; MOST_ACTIONS], w: u16) -> [u64; 64]
     ensures { λ r. ⌜ r ≡ foursOf (table 16 (gathered base (now (leads .entry)) w)) ⌝ }
 {
     let world = worlds(base, leads, w);

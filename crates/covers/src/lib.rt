@@ -3,6 +3,7 @@
 ghost use mathlib.Core.Path.{_≡_};
 ghost use Prim.Native.Nat.{_^_, _≤_, _<_};
 ghost use Rattle.covers.specs.Covers.{wordsOf, moved, closedOf, lessOf, lowOf, coveredOf, slimOf};
+use columns::WORDS;
 
 // Adds action a, one of the lowest six, to each marked set that lacks it.
 fn added(marks: u64, a: usize) -> u64
@@ -36,7 +37,7 @@ fn larger(marks: u64) -> u64
 }
 
 // Those of the sets of w that are marked without one of the actions from 6 on.
-pub fn low(table: &[u64; 1024], w: u16) -> u64
+pub fn low(table: &[u64; WORDS], w: u16) -> u64
     requires { ⌜ w ≤ 1023 ⌝ }
     ensures { λ r. ⌜ r ≡ lowOf (now (table .entry)) w ⌝ }
 {

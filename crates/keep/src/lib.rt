@@ -13,6 +13,7 @@ ghost use Rattle.words.specs.Plan.{Planned};
 ghost use Rattle.covers.specs.Covers.{wordsOf, Members, Table};
 ghost use Rattle.keep.specs.Keep.{foundOr0, spoilt, keepOf};
 ghost use Rattle.keep.specs.Search.{someUnless, unmarked};
+use columns::WORDS;
 use policy::Policy;
 use policy::Query;
 use words::Plan;
@@ -38,8 +39,8 @@ fn spoilt(
     policy: Policy,
     query: Query,
     plan: Plan,
-    cleared: &[u64; 1024],
-    known: &[bool; 1024],
+    cleared: &[u64; WORDS],
+    known: &[bool; WORDS],
     set: u16,
     w: u16,
     low: u64,
@@ -63,10 +64,10 @@ fn mark(
     policy: Policy,
     query: Query,
     plan: Plan,
-    cleared: &[u64; 1024],
-    known: &[bool; 1024],
+    cleared: &[u64; WORDS],
+    known: &[bool; WORDS],
     set: u16,
-    table: &mut [u64; 1024],
+    table: &mut [u64; WORDS],
 )
     requires { ⌜ Accepted policy query ⌝ }
     requires { ⌜ Planned policy query (plan .base) (plan .leads) (plan .rules) (plan .start) (plan .uses) ⌝ }
@@ -85,7 +86,7 @@ fn mark(
 }
 
 // Whether k shares nothing with the set or done, and the largest set that shares nothing with k or done is not marked.
-fn unmarked(table: &[u64; 1024], actions: u8, set: u16, done: u16, k: u16) -> bool
+fn unmarked(table: &[u64; WORDS], actions: u8, set: u16, done: u16, k: u16) -> bool
     requires { ⌜ actions ≤ 16 ⌝ }
     ensures { λ r. ⌜ r ≡ unmarked (now (table .entry)) actions set done k ⌝ }
 {
@@ -101,7 +102,7 @@ fn unmarked(table: &[u64; 1024], actions: u8, set: u16, done: u16, k: u16) -> bo
 // Of the masks of which that is so the one with the fewest actions, and of those the one with the lowest number; 0 where there is
 // none. A mask with no fewer actions than the best so far is passed over with all that follow it up to its lowest action's worth,
 // since they contain it.
-fn fewest(table: &[u64; 1024], actions: u8, set: u16, done: u16) -> u16
+fn fewest(table: &[u64; WORDS], actions: u8, set: u16, done: u16) -> u16
     requires { ⌜ actions ≤ 16 ⌝ }
     ensures { λ r. ⌜ r ≡ foundOr0 (lightest (unmarked (now (table .entry)) actions set done) ones (2 ^ actions)) ⌝ }
 {
@@ -130,8 +131,8 @@ pub fn keep_off(
     policy: Policy,
     query: Query,
     plan: Plan,
-    cleared: &[u64; 1024],
-    known: &[bool; 1024],
+    cleared: &[u64; WORDS],
+    known: &[bool; WORDS],
     set: u16,
 ) -> u16
     requires { ⌜ Accepted policy query ⌝ }
@@ -139,7 +140,7 @@ pub fn keep_off(
     requires { ⌜ Known policy query (now cleared) (now known) ⌝ }
     ensures { λ r. ⌜ r ≡ keepOf (clears policy query) (policy .actions) set (query .done) ⌝ }
 {
-    let mut table = [0u64; 1024];
+    let mut table = [0u64; WORDS];
     mark(policy, query, plan, cleared, known, set, &mut table);
     fewest(&table, policy.actions, set, query.done)
 }

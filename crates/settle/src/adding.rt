@@ -4,10 +4,11 @@ ghost use Rattle.policy.specs.Record.{listed};
 ghost use Rattle.policy.specs.Laws.{ListFits, RuleFits};
 ghost use Rattle.settle.specs.Words.{allOf, noneOf, addedOf, grown};
 use policy::Decisions;
+use policy::MOST_DECISIONS;
 use policy::Rule;
 
 // Those of the sets in which every decision of the list is held.
-fn all_held(held: &[u64; 128], list: Decisions, sets: u64) -> u64
+fn all_held(held: &[u64; MOST_DECISIONS], list: Decisions, sets: u64) -> u64
     requires { ⌜ ListFits 128 list ⌝ }
     ensures { λ r. ⌜ r ≡ allOf (now (held .entry)) sets (listed list) ⌝ }
 {
@@ -22,7 +23,7 @@ fn all_held(held: &[u64; 128], list: Decisions, sets: u64) -> u64
 }
 
 // Those of the sets in which no decision of the list is held.
-fn none_held(held: &[u64; 128], list: Decisions, sets: u64) -> u64
+fn none_held(held: &[u64; MOST_DECISIONS], list: Decisions, sets: u64) -> u64
     requires { ⌜ ListFits 128 list ⌝ }
     ensures { λ r. ⌜ r ≡ noneOf (now (held .entry)) sets (listed list) ⌝ }
 {
@@ -37,7 +38,7 @@ fn none_held(held: &[u64; 128], list: Decisions, sets: u64) -> u64
 }
 
 // Adds the rule's head in those of the sets that enable it in which it is not held yet, each if is and no unless is: these sets.
-pub(crate) fn add(rule: Rule, enabled: u64, held: &mut [u64; 128]) -> u64
+pub(crate) fn add(rule: Rule, enabled: u64, held: &mut [u64; MOST_DECISIONS]) -> u64
     requires { ⌜ RuleFits 128 16 rule ⌝ }
     ensures { λ r. ⌜ r ≡ addedOf (now (held .entry)) enabled rule ⌝ }
     ensures { λ r. ⌜ now (held .exit) ≡ grown (now (held .entry)) (rule .head) (addedOf (now (held .entry)) enabled rule) ⌝ }

@@ -6,6 +6,9 @@ ghost use Rattle.policy.specs.Questions.{Accepted};
 ghost use Rattle.order.specs.Order.{Ordered, Used};
 ghost use Rattle.settle.specs.Right.{AreWords, Right, Enabling};
 use adding::add;
+use policy::LEVELS;
+use policy::MOST_DECISIONS;
+use policy::MOST_RULES;
 use policy::Policy;
 
 mod adding;
@@ -15,12 +18,12 @@ mod adding;
 // first, since what runs against the order in a circle of rules runs with it then.
 pub fn levels(
     policy: Policy,
-    order: &[u8; 256],
-    start: &[u16; 17],
-    uses: &[u16; 128],
-    enabled: &[u64; 256],
+    order: &[u8; MOST_RULES],
+    start: &[u16; LEVELS + 1],
+    uses: &[u16; MOST_DECISIONS],
+    enabled: &[u64; MOST_RULES],
     count: usize,
-) -> [u64; 128]
+) -> [u64; MOST_DECISIONS]
     requires { ⌜ InRange policy ⌝ }
     requires { ⌜ Ordered policy (now order) (now start) ⌝ }
     requires { ⌜ Used policy (now order) (now uses) ⌝ }
@@ -29,7 +32,7 @@ pub fn levels(
     ensures { λ r. ⌜ ((q : Query) (w sets : ℕ) → Accepted policy q → Enabling policy q w sets (now (order .entry)) (now (enabled .entry))
         → Right policy q w sets count r) ⌝ }
 {
-    let mut held = [0u64; 128];
+    let mut held = [0u64; MOST_DECISIONS];
     for l in 0..count {
         let from = start[l] as usize;
         let to = start[l + 1] as usize;

@@ -11,6 +11,11 @@ ghost use Rattle.words.specs.Models.{modelOf, wordOf};
 ghost use Rattle.words.specs.Known.{Known};
 ghost use Rattle.settle.specs.Right.{AreWords};
 ghost use Rattle.words.specs.Plan.{Planned, Worked};
+use columns::WORDS;
+use policy::LEVELS;
+use policy::MOST_ACTIONS;
+use policy::MOST_DECISIONS;
+use policy::MOST_RULES;
 use policy::Policy;
 use policy::Query;
 
@@ -18,10 +23,10 @@ use policy::Query;
 // from start[l] up to start[l + 1], and none before uses[d] asks for decision d as an if.
 pub struct Plan {
     pub base: u16,
-    pub leads: [u16; 16],
-    pub rules: [u8; 256],
-    pub start: [u16; 17],
-    pub uses: [u16; 128],
+    pub leads: [u16; MOST_ACTIONS],
+    pub rules: [u8; MOST_RULES],
+    pub start: [u16; LEVELS + 1],
+    pub uses: [u16; MOST_DECISIONS],
 }
 
 // What the words of a query are worked from.
@@ -50,15 +55,15 @@ fn enabling(
     policy: Policy,
     fours: &[u64; 64],
     sets: u64,
-    order: &[u8; 256],
+    order: &[u8; MOST_RULES],
     count: usize,
-) -> [u64; 256]
+) -> [u64; MOST_RULES]
     requires { ⌜ count ≤ 256 ⌝ }
     requires { ⌜ ((j : ℕ) → j < count → getD (now order) j 0 < 256) ⌝ }
     ensures { λ r. ⌜ Tabled (λ j. neededOf (now (fours .entry)) (ruleOf policy (getD (now (order .entry)) j 0) .needs) sets) 256 r count ⌝ }
     ensures { λ r. ⌜ AreWords 256 r ⌝ }
 {
-    let mut enabled = [0u64; 256];
+    let mut enabled = [0u64; MOST_RULES];
     for j in 0..count {
         let k = order[j] as usize;
         let rule = policy.rule[k];
@@ -68,7 +73,7 @@ fn enabling(
 }
 
 // The words of the sets of w, right for the decisions of the first `count` levels.
-fn worked(policy: Policy, query: Query, plan: Plan, w: u16, count: usize) -> [u64; 128]
+fn worked(policy: Policy, query: Query, plan: Plan, w: u16, count: usize) -> [u64; MOST_DECISIONS]
     requires { ⌜ Accepted policy query ⌝ }
     requires { ⌜ Planned policy query (plan .base) (plan .leads) (plan .rules) (plan .start) (plan .uses) ⌝ }
     requires { ⌜ w ≤ 1023 ⌝ }
@@ -77,7 +82,7 @@ fn worked(policy: Policy, query: Query, plan: Plan, w: u16, count: usize) -> [u6
 {
     let sets = columns::offered(policy.actions, query.done, w);
     if sets == 0 {
-        return [0u64; 128];
+        return [0u64; MOST_DECISIONS];
     }
     let leads = plan.leads;
     let fours = columns::fours(plan.base, &leads, w);
@@ -89,7 +94,7 @@ fn worked(policy: Policy, query: Query, plan: Plan, w: u16, count: usize) -> [u6
 }
 
 // For each decision the sets of the word w that clear it: bit i is the set 64 w + i.
-pub fn model(policy: Policy, query: Query, plan: Plan, w: u16) -> [u64; 128]
+pub fn model(policy: Policy, query: Query, plan: Plan, w: u16) -> [u64; MOST_DECISIONS]
     requires { ⌜ Accepted policy query ⌝ }
     requires { ⌜ Planned policy query (plan .base) (plan .leads) (plan .rules) (plan .start) (plan .uses) ⌝ }
     requires { ⌜ w ≤ 1023 ⌝ }
@@ -116,8 +121,8 @@ pub fn recalled(
     policy: Policy,
     query: Query,
     plan: Plan,
-    cleared: &[u64; 1024],
-    known: &[bool; 1024],
+    cleared: &[u64; WORDS],
+    known: &[bool; WORDS],
     w: u16,
 ) -> u64
     requires { ⌜ Accepted policy query ⌝ }
