@@ -13,7 +13,7 @@ fn offer_in_range(policy: Policy, query: Query, offered: u16) -> bool
     if !policy::query_in_range(query, policy.decisions, policy.actions) {
         return false;
     }
-    mask::fits(offered, policy.actions as usize)
+    mask::is_mask(offered, policy.actions as usize)
 }
 
 // Questions 3 to 6 to the policy and the query.

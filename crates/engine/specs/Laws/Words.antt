@@ -14,7 +14,8 @@ use Rattle.base.specs.Laws.Tables.{table-length}
 use Rattle.base.specs.Laws.Tests.{is-true, is-false, and-make, and-left, and-right, getD-filled}
 use Rattle.policy.specs.declared.Policy.{Policy}
 use Rattle.policy.specs.declared.Query.{Query}
-use Rattle.policy.specs.Questions.{firstNo, questions, queryInRange, queryQuestions, isDecision, isMask, Accepted}
+use Rattle.policy.specs.Questions.{firstNo, questions, queryInRange, queryQuestions, isDecision, Accepted}
+use Rattle.mask.specs.Mask.{isMask}
 use Rattle.policy.specs.Laws.{firstNo-zero, accepted, answers, answered-with, accepted-range}
 use Rattle.columns.specs.Sets.{setAt}
 use Rattle.columns.specs.Laws.Columns.{none-set}

@@ -14,7 +14,7 @@ returns-2 : tie.Need-returns-2
 unfolding queryInRange
 returns-2 c =
     rw (sym (c .before .before .before .query-in-range .ensures) ∙ not-false _ (c .before .before .if1 .left))
-    (c .fits2 .ensures)
+    (c .is-mask .ensures)
 
 pub offer-in-range-spec : {M : Type 1} → statement M
 offer-in-range-spec =
