@@ -5,6 +5,7 @@ ghost use Rattle.model.specs.World.{worldIn};
 ghost use Rattle.mask.specs.Mask.{has};
 ghost use Rattle.base.specs.Lists.{table};
 ghost use Rattle.columns.specs.Sets.{columnOf, isShut, offeredOf, holdingOf, gathered, fourOf, foursOf, neededOf};
+ghost use Rattle.policy.specs.Record.{mostActions};
 use policy::Action;
 use policy::MOST_ACTIONS;
 
@@ -81,7 +82,7 @@ pub fn holding(set: u16, w: u16) -> u64
 
 // What each action leads to by itself.
 pub fn reach(action: [Action; MOST_ACTIONS], actions: u8) -> [u16; MOST_ACTIONS]
-    ensures { λ r. ⌜ r ≡ table 16 (λ a. worldIn action actions 0 (2 ^ a)) ⌝ }
+    ensures { λ r. ⌜ r ≡ table mostActions (λ a. worldIn action actions 0 (2 ^ a)) ⌝ }
 {
     let mut leads = [0u16; MOST_ACTIONS];
     for a in 0..MOST_ACTIONS {
@@ -105,7 +106,7 @@ fn world_of(base: u16, leads: &[u16; MOST_ACTIONS], w: u16, b: usize) -> u64
 
 // The same for each action.
 fn worlds(base: u16, leads: &[u16; MOST_ACTIONS], w: u16) -> [u64; MOST_ACTIONS]
-    ensures { λ r. ⌜ r ≡ table 16 (gathered base (now (leads .entry)) w) ⌝ }
+    ensures { λ r. ⌜ r ≡ table mostActions (gathered base (now (leads .entry)) w) ⌝ }
 {
     let mut world = [0u64; MOST_ACTIONS];
     for b in 0..MOST_ACTIONS {
@@ -130,7 +131,7 @@ fn four(world: &[u64; MOST_ACTIONS], z: usize, v: u16) -> u64
 
 // The same for each four actions and each mask v of them, at 16 z + v: `needed` has four looks for a rule, and not 16.
 pub fn fours(base: u16, leads: &[u16; MOST_ACTIONS], w: u16) -> [u64; 64]
-    ensures { λ r. ⌜ r ≡ foursOf (table 16 (gathered base (now (leads .entry)) w)) ⌝ }
+    ensures { λ r. ⌜ r ≡ foursOf (table mostActions (gathered base (now (leads .entry)) w)) ⌝ }
 {
     let world = worlds(base, leads, w);
     let mut fours = [0u64; 64];

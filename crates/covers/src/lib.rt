@@ -3,6 +3,7 @@
 ghost use mathlib.Core.Path.{_≡_};
 ghost use Prim.Native.Nat.{_^_, _≤_, _<_};
 ghost use Rattle.covers.specs.Covers.{wordsOf, moved, closedOf, lessOf, lowOf, coveredOf, slimOf};
+ghost use Rattle.policy.specs.Record.{mostActions};
 use columns::WORDS;
 
 // Adds action a, one of the lowest six, to each marked set that lacks it.
@@ -72,7 +73,7 @@ pub fn step(members: u64, low: u64) -> Both
 
 // The number of sets of so many actions.
 pub fn sets_of(actions: u8) -> usize
-    requires { ⌜ actions ≤ 16 ⌝ }
+    requires { ⌜ actions ≤ mostActions ⌝ }
     ensures { λ r. ⌜ r ≡ 2 ^ actions ⌝ }
 {
     1usize << (actions as usize)
@@ -80,7 +81,7 @@ pub fn sets_of(actions: u8) -> usize
 
 // The number of words that hold them.
 pub fn words_of(actions: u8) -> usize
-    requires { ⌜ actions ≤ 16 ⌝ }
+    requires { ⌜ actions ≤ mostActions ⌝ }
     ensures { λ r. ⌜ r ≡ wordsOf actions ⌝ }
 {
     (sets_of(actions) + 63) / 64

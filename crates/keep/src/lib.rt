@@ -13,6 +13,7 @@ ghost use Rattle.words.specs.Plan.{Planned};
 ghost use Rattle.covers.specs.Covers.{wordsOf, Members, Table};
 ghost use Rattle.keep.specs.Keep.{foundOr0, spoilt, keepOf};
 ghost use Rattle.keep.specs.Search.{someUnless, unmarked};
+ghost use Rattle.policy.specs.Record.{mostActions, mostRules};
 use columns::WORDS;
 use policy::Policy;
 use policy::Query;
@@ -20,7 +21,7 @@ use words::Plan;
 
 // Whether some rule has an unless entry: where none has, more actions do no harm.
 pub fn some_unless(policy: Policy) -> bool
-    requires { ⌜ policy .rules ≤ 256 ⌝ }
+    requires { ⌜ policy .rules ≤ mostRules ⌝ }
     ensures { λ r. ⌜ r ≡ someUnless policy ⌝ }
 {
     let rules = policy.rules as usize;
@@ -87,7 +88,7 @@ fn mark(
 
 // Whether k shares nothing with the set or done, and the largest set that shares nothing with k or done is not marked.
 fn unmarked(table: &[u64; WORDS], actions: u8, set: u16, done: u16, k: u16) -> bool
-    requires { ⌜ actions ≤ 16 ⌝ }
+    requires { ⌜ actions ≤ mostActions ⌝ }
     ensures { λ r. ⌜ r ≡ unmarked (now (table .entry)) actions set done k ⌝ }
 {
     if !mask::disjoint(k, mask::join(set, done)) {
@@ -103,7 +104,7 @@ fn unmarked(table: &[u64; WORDS], actions: u8, set: u16, done: u16, k: u16) -> b
 // none. A mask with no fewer actions than the best so far is passed over with all that follow it up to its lowest action's worth,
 // since they contain it.
 fn fewest(table: &[u64; WORDS], actions: u8, set: u16, done: u16) -> u16
-    requires { ⌜ actions ≤ 16 ⌝ }
+    requires { ⌜ actions ≤ mostActions ⌝ }
     ensures { λ r. ⌜ r ≡ foundOr0 (lightest (unmarked (now (table .entry)) actions set done) ones (2 ^ actions)) ⌝ }
 {
     let sets = covers::sets_of(actions);

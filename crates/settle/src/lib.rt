@@ -5,6 +5,7 @@ ghost use Rattle.policy.specs.Laws.{InRange};
 ghost use Rattle.policy.specs.Questions.{Accepted};
 ghost use Rattle.order.specs.Order.{Ordered, Used};
 ghost use Rattle.settle.specs.Right.{AreWords, Right, Enabling};
+ghost use Rattle.policy.specs.Record.{mostRules};
 use adding::add;
 use policy::LEVELS;
 use policy::MOST_DECISIONS;
@@ -27,7 +28,7 @@ pub fn levels(
     requires { ⌜ InRange policy ⌝ }
     requires { ⌜ Ordered policy (now order) (now start) ⌝ }
     requires { ⌜ Used policy (now order) (now uses) ⌝ }
-    requires { ⌜ AreWords 256 (now enabled) ⌝ }
+    requires { ⌜ AreWords mostRules (now enabled) ⌝ }
     requires { ⌜ count ≤ 16 ⌝ }
     ensures { λ r. ⌜ ((q : Query) (w sets : ℕ) → Accepted policy q → Enabling policy q w sets (now (order .entry)) (now (enabled .entry))
         → Right policy q w sets count r) ⌝ }

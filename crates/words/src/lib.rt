@@ -4,7 +4,7 @@ ghost use Prim.Native.Nat.{ℕ, _≤_, _<_};
 ghost use lib.ListN.{getD};
 ghost use Rattle.base.specs.Laws.Tables.{Tabled};
 ghost use Rattle.policy.specs.declared.Query.{Query};
-ghost use Rattle.policy.specs.Record.{ruleOf};
+ghost use Rattle.policy.specs.Record.{mostRules, ruleOf};
 ghost use Rattle.policy.specs.Questions.{Accepted};
 ghost use Rattle.columns.specs.Sets.{neededOf};
 ghost use Rattle.words.specs.Models.{modelOf, wordOf};
@@ -58,10 +58,10 @@ fn enabling(
     order: &[u8; MOST_RULES],
     count: usize,
 ) -> [u64; MOST_RULES]
-    requires { ⌜ count ≤ 256 ⌝ }
-    requires { ⌜ ((j : ℕ) → j < count → getD (now order) j 0 < 256) ⌝ }
-    ensures { λ r. ⌜ Tabled (λ j. neededOf (now (fours .entry)) (ruleOf policy (getD (now (order .entry)) j 0) .needs) sets) 256 r count ⌝ }
-    ensures { λ r. ⌜ AreWords 256 r ⌝ }
+    requires { ⌜ count ≤ mostRules ⌝ }
+    requires { ⌜ ((j : ℕ) → j < count → getD (now order) j 0 < mostRules) ⌝ }
+    ensures { λ r. ⌜ Tabled (λ j. neededOf (now (fours .entry)) (ruleOf policy (getD (now (order .entry)) j 0) .needs) sets) mostRules r count ⌝ }
+    ensures { λ r. ⌜ AreWords mostRules r ⌝ }
 {
     let mut enabled = [0u64; MOST_RULES];
     for j in 0..count {
