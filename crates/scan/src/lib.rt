@@ -1,8 +1,9 @@
 // The rules that fire in the world of a set, until the wanted decision is held. For the engine alone: it has asked the questions that
 // these functions require.
 ghost use mathlib.Core.Path.{_≡_};
+ghost use mathlib.Core.Bool.{cond};
 ghost use Prim.Native.Nat.{_<_};
-ghost use lib.ListN.{length};
+ghost use lib.ListN.{length, replicate};
 ghost use Rattle.base.specs.Lists.{filled};
 ghost use Rattle.policy.specs.Record.{listed};
 ghost use Rattle.policy.specs.Questions.{Accepted};
@@ -72,6 +73,21 @@ fn can_fire(rule: Rule, held: &[bool; 128], world: u16) -> bool
     none_held(held, unless)
 }
 
+// What the scan answers: the rules that fired where the wanted decision is held, and else none.
+fn answer(held: bool, count: u8, rules: [u8; 128]) -> FiredRules
+    ensures { λ r. ⌜ r .count ≡ cond held count 0 ⌝ }
+    ensures { λ r. ⌜ r .rules ≡ cond held rules (replicate 128 0) ⌝ }
+{
+    if held {
+        FiredRules { count, rules }
+    } else {
+        FiredRules {
+            count: 0,
+            rules: [0u8; 128],
+        }
+    }
+}
+
 // The rules that fire until `want` is held, level by level, in passes over the rules; none where it is never held.
 // No rule of a higher level than want's has the head `want`, so those levels are left out.
 fn scan(policy: Policy, want: u8, world: u16) -> FiredRules
@@ -106,18 +122,8 @@ fn scan(policy: Policy, want: u8, world: u16) -> FiredRules
             }
         }
     }
-    if held[goal] {
-        let count = n as u8;
-        FiredRules {
-            count,
-            rules: fired,
-        }
-    } else {
-        FiredRules {
-            count: 0,
-            rules: [0u8; 128],
-        }
-    }
+    let count = n as u8;
+    answer(held[goal], count, fired)
 }
 
 // The rules that fire in the world of the set.
