@@ -22,7 +22,7 @@ module _ (cost : ℕ → ℕ) (s t : ℕ) where
   unfolding Before
   before-costs b = ⊎-elim (λ (less : cost s < cost t). omega arith) (λ (h : (cost s ≡ cost t) × (s < t)). omega arith) b
 
-  -- of two sets one comes before the other, and not both
+  -- no two sets come before each other
   pub before-once : Before cost s t → Before cost t s → ⊥
   unfolding Before
   before-once (inl h) (inl g) = omega arith
@@ -30,7 +30,7 @@ module _ (cost : ℕ → ℕ) (s t : ℕ) where
   before-once (inr h) (inl g) = omega arith
   before-once (inr h) (inr g) = omega arith
 
--- no set comes before the empty one, if it costs no less
+-- no set comes before the empty one, where that costs no more
 pub before-empty : (cost : ℕ → ℕ) (s : ℕ) → cost 0 ≤ cost s → Before cost s 0 → ⊥
 unfolding Before
 before-empty cost s h (inl g) = omega arith
