@@ -84,3 +84,17 @@ pub fn list(buffer: &mut [u8], at: usize, key: &[u8], numbers: &[u8]) -> usize
     }
     put(buffer, end, b"\n")
 }
+
+// The same for a list of masks.
+pub fn masks(buffer: &mut [u8], at: usize, key: &[u8], masks: &[u16]) -> usize
+    ensures { λ r. ⌜ Puts (now (buffer .entry)) at
+        (now (key .entry) ++ (commas (now (masks .entry)) ++ ascii "\n")) (now (buffer .exit)) r ⌝ }
+{
+    let mut last = put(buffer, at, key);
+    let mut i = 0;
+    while i < masks.len() {
+        last = entry(buffer, last, i, masks[i]);
+        i += 1;
+    }
+    put(buffer, last, b"\n")
+}
