@@ -17,7 +17,7 @@ mod parts;
 fn rules() -> [Rule; 256]
     ensures { λ r. ⌜ r ≡ filled 256 zeroRule (rows 16) ⌝ }
 {
-    let mut rule = [parts::zero(); 256];
+    let mut rule = [format::zero_rule(); 256];
     let mut k = 0;
     for i in 1..17 {
         for j in 1..numbers::wide(i) + 1 {

@@ -2,20 +2,12 @@
 ghost use Prim.Native.Nat.{_<_};
 ghost use mathlib.Core.List.{[], _∷_};
 ghost use mathlib.Core.Path.{_≡_};
-ghost use Rattle.format.specs.Entries.{zeroRule};
 ghost use Rattle.format.specs.Format.{decisionsOf};
 ghost use Rattle.threshold.specs.AtLeast.{There, fewer, without, having};
 use crate::numbers::number;
+use format::list_of_none;
 use policy::Decisions;
 use policy::Rule;
-
-// A list of no decision.
-fn none() -> Decisions
-    ensures { λ r. ⌜ r ≡ decisionsOf [] ⌝ }
-{
-    let at = [0u8; 8];
-    Decisions { count: 0, at }
-}
 
 // A list of one.
 fn one(d: u8) -> Decisions
@@ -25,19 +17,6 @@ fn one(d: u8) -> Decisions
     Decisions { count: 1, at }
 }
 
-// A rule of zeros.
-pub(crate) fn zero() -> Rule
-    ensures { λ r. ⌜ r ≡ zeroRule ⌝ }
-{
-    let list = none();
-    Rule {
-        head: 0,
-        needs: 0,
-        ifs: list,
-        unless: list,
-    }
-}
-
 // The rule without the i-th action.
 pub(crate) fn without(i: u8, j: u8) -> Rule
     requires { ⌜ There i j × (j < i) ⌝ }
@@ -45,7 +24,7 @@ pub(crate) fn without(i: u8, j: u8) -> Rule
 {
     let head = number(i, j);
     let ifs = one(number(i - 1, j));
-    let unless = none();
+    let unless = list_of_none();
     Rule {
         head,
         needs: 0,
@@ -60,7 +39,7 @@ fn fewer(i: u8, j: u8) -> Decisions
     ensures { λ r. ⌜ r ≡ decisionsOf (fewer i j) ⌝ }
 {
     if j == 1 {
-        return none();
+        return list_of_none();
     }
     one(number(i - 1, j - 1))
 }
@@ -73,7 +52,7 @@ pub(crate) fn having(i: u8, j: u8) -> Rule
     let head = number(i, j);
     let needs = 1u16 << (i - 1);
     let ifs = fewer(i, j);
-    let unless = none();
+    let unless = list_of_none();
     Rule {
         head,
         needs,

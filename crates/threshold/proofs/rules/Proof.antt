@@ -25,7 +25,7 @@ abbrev μ-loop : tie.MeasureT-loop
 μ-loop rule₀ k₀ i₀ rule k i = 17 - i
 
 loop-holds : tie.Need-loop-holds Inv-loop2 μ-loop2 Inv-loop μ-loop
-loop-holds c = (none-yet (c .zero .ensures), omega arith, omega arith)
+loop-holds c = (none-yet (c .zero-rule .ensures), omega arith, omega arith)
 
 add-j-end : tie.Need-add-j-end Inv-loop2 μ-loop2 Inv-loop μ-loop
 add-j-end c = omega (arith, c .wide .ensures)

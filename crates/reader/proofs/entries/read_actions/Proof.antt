@@ -20,7 +20,7 @@ abbrev μ-loop : tie.MeasureT-loop
 
 loop-holds : tie.Need-loop-holds Inv-loop μ-loop
 unfolding filled
-loop-holds c = (begins (ap (replicate 16) (c .no-action .ensures)), omega arith)
+loop-holds c = (begins (ap (replicate 16) (c .zero-action .ensures)), omega arith)
 
 loop-again : tie.Need-loop-again Inv-loop μ-loop
 unfolding action

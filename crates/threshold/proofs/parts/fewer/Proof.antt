@@ -11,7 +11,7 @@ use Rattle.threshold.proofs.parts.fewer.Tie as tie
 
 returns : tie.Need-returns
 unfolding fewer
-returns c = rw (c .before .if1 .taken) (c .none .ensures)
+returns c = rw (c .before .if1 .taken) (c .list-of-none .ensures)
 
 returns-2 : tie.Need-returns-2
 unfolding fewer

@@ -13,7 +13,7 @@ unfolding having
 returns c =
     let fewer = c .before in
     let start = fewer .before .before in
-    made (fewer .before .number .ensures) (worth (start .args .i - 1) 16 (omega arith)) (fewer .fewer .ensures) (c .none .ensures)
+    made (fewer .before .number .ensures) (worth (start .args .i - 1) 16 (omega arith)) (fewer .fewer .ensures) (c .list-of-none .ensures)
 
 pub having-spec : {M : Type 1} → statement M
 having-spec =

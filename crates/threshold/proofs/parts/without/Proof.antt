@@ -14,7 +14,7 @@ unfolding without
 returns c =
     let ifs = c .before in
     made (ifs .before .before .number .ensures) refl
-    (ifs .one .ensures ∙ ap (λ (d : ℕ). decisionsOf (d ∷ [])) (ifs .before .number2 .ensures)) (c .none .ensures)
+    (ifs .one .ensures ∙ ap (λ (d : ℕ). decisionsOf (d ∷ [])) (ifs .before .number2 .ensures)) (c .list-of-none .ensures)
 
 pub without-spec : {M : Type 1} → statement M
 without-spec =
