@@ -5,6 +5,7 @@ ghost use Rattle.words.specs.Known.{Known};
 ghost use Rattle.words.specs.Plan.{Planned};
 ghost use Rattle.engine.specs.Sets.{Enough};
 ghost use Rattle.engine.specs.Calls.{keepFor};
+use columns::WORDS;
 use policy::Policy;
 use policy::Query;
 use words::Plan;
@@ -14,8 +15,8 @@ pub(crate) fn beside(
     policy: Policy,
     query: Query,
     plan: Plan,
-    cleared: &[u64; 1024],
-    known: &[bool; 1024],
+    cleared: &[u64; WORDS],
+    known: &[bool; WORDS],
     set: u16,
 ) -> u16
     requires { ⌜ Accepted policy query ⌝ }

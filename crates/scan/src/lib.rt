@@ -5,12 +5,13 @@ ghost use mathlib.Core.Bool.{cond};
 ghost use Prim.Native.Nat.{_<_};
 ghost use lib.ListN.{length, replicate};
 ghost use Rattle.base.specs.Lists.{filled};
-ghost use Rattle.policy.specs.Record.{listed};
+ghost use Rattle.policy.specs.Record.{mostDecisions, mostActions, listed};
 ghost use Rattle.policy.specs.Questions.{Accepted};
 ghost use Rattle.policy.specs.Laws.{ListFits, RuleFits, InRange};
 ghost use Rattle.model.specs.Clears.{firedFor};
 ghost use Rattle.model.specs.Fire.{allHeld, noneHeld, canFire, firedOf};
 use policy::Decisions;
+use policy::MOST_DECISIONS;
 use policy::Policy;
 use policy::Query;
 use policy::Rule;
@@ -18,12 +19,12 @@ use policy::Rule;
 // The rules that fired, in order: `count` of them, and zeros behind them.
 pub struct FiredRules {
     pub count: u8,
-    pub rules: [u8; 128],
+    pub rules: [u8; MOST_DECISIONS],
 }
 
 // Every decision of the list is held.
-fn all_held(held: &[bool; 128], list: Decisions) -> bool
-    requires { ⌜ ListFits 128 list ⌝ }
+fn all_held(held: &[bool; MOST_DECISIONS], list: Decisions) -> bool
+    requires { ⌜ ListFits mostDecisions list ⌝ }
     ensures { λ r. ⌜ r ≡ allHeld (now (held .entry)) (listed list) ⌝ }
 {
     let n = list.count as usize;
@@ -38,8 +39,8 @@ fn all_held(held: &[bool; 128], list: Decisions) -> bool
 }
 
 // No decision of the list is held.
-fn none_held(held: &[bool; 128], list: Decisions) -> bool
-    requires { ⌜ ListFits 128 list ⌝ }
+fn none_held(held: &[bool; MOST_DECISIONS], list: Decisions) -> bool
+    requires { ⌜ ListFits mostDecisions list ⌝ }
     ensures { λ r. ⌜ r ≡ noneHeld (now (held .entry)) (listed list) ⌝ }
 {
     let n = list.count as usize;
@@ -54,8 +55,8 @@ fn none_held(held: &[bool; 128], list: Decisions) -> bool
 }
 
 // The rule can fire: its head is not held yet, and the world and the marks are as it asks.
-fn can_fire(rule: Rule, held: &[bool; 128], world: u16) -> bool
-    requires { ⌜ RuleFits 128 16 rule ⌝ }
+fn can_fire(rule: Rule, held: &[bool; MOST_DECISIONS], world: u16) -> bool
+    requires { ⌜ RuleFits mostDecisions mostActions rule ⌝ }
     ensures { λ r. ⌜ r ≡ canFire (now (held .entry)) world rule ⌝ }
 {
     let head = rule.head as usize;
@@ -74,16 +75,16 @@ fn can_fire(rule: Rule, held: &[bool; 128], world: u16) -> bool
 }
 
 // What the scan answers: the rules that fired where the wanted decision is held, and else none.
-fn answer(held: bool, count: u8, rules: [u8; 128]) -> FiredRules
+fn answer(held: bool, count: u8, rules: [u8; MOST_DECISIONS]) -> FiredRules
     ensures { λ r. ⌜ r .count ≡ cond held count 0 ⌝ }
-    ensures { λ r. ⌜ r .rules ≡ cond held rules (replicate 128 0) ⌝ }
+    ensures { λ r. ⌜ r .rules ≡ cond held rules (replicate mostDecisions 0) ⌝ }
 {
     if held {
         FiredRules { count, rules }
     } else {
         FiredRules {
             count: 0,
-            rules: [0u8; 128],
+            rules: [0u8; MOST_DECISIONS],
         }
     }
 }
@@ -94,10 +95,10 @@ fn scan(policy: Policy, want: u8, world: u16) -> FiredRules
     requires { ⌜ InRange policy ⌝ }
     requires { ⌜ want < policy .decisions ⌝ }
     ensures { λ r. ⌜ r .count ≡ length (firedOf policy world want) ⌝ }
-    ensures { λ r. ⌜ r .rules ≡ filled 128 0 (firedOf policy world want) ⌝ }
+    ensures { λ r. ⌜ r .rules ≡ filled mostDecisions 0 (firedOf policy world want) ⌝ }
 {
-    let mut held = [false; 128];
-    let mut fired = [0u8; 128];
+    let mut held = [false; MOST_DECISIONS];
+    let mut fired = [0u8; MOST_DECISIONS];
     let mut n: usize = 0;
     let rules = policy.rules as usize;
     let goal = want as usize;
@@ -130,7 +131,7 @@ fn scan(policy: Policy, want: u8, world: u16) -> FiredRules
 pub fn fired(policy: Policy, query: Query, set: u16) -> FiredRules
     requires { ⌜ Accepted policy query ⌝ }
     ensures { λ r. ⌜ r .count ≡ length (firedFor policy query set) ⌝ }
-    ensures { λ r. ⌜ r .rules ≡ filled 128 0 (firedFor policy query set) ⌝ }
+    ensures { λ r. ⌜ r .rules ≡ filled mostDecisions 0 (firedFor policy query set) ⌝ }
 {
     let action = policy.action;
     let world = model::world(action, policy.actions, query.done, set);

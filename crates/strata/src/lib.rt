@@ -1,6 +1,7 @@
 // Finding levels for a policy: the lowest with which question 5 is answered yes.
 ghost use mathlib.Core.Path.{_≡_};
 ghost use Rattle.strata.specs.Levels.{foundLevels, FindsLevels};
+use policy::MOST_DECISIONS;
 use policy::Policy;
 
 mod raising;
@@ -9,7 +10,7 @@ mod raising;
 // is 0.
 pub struct Levelling {
     pub refusal: u8,
-    pub level: [u8; 128],
+    pub level: [u8; MOST_DECISIONS],
 }
 
 // The lowest levels with which question 5 is answered yes; those that the policy holds are not looked at.

@@ -2,13 +2,14 @@
 ghost use mathlib.Core.Path.{_≡_};
 ghost use mathlib.Core.Bool.{true};
 ghost use Prim.Native.Nat.{_≤_};
-ghost use Rattle.policy.specs.Record.{listed};
+ghost use Rattle.policy.specs.Record.{mostDecisions, mostActions, listed};
 ghost use Rattle.policy.specs.Questions.{othersInRange, listsRise};
 ghost use Rattle.policy.specs.Laws.{ListFits, RuleFits};
 ghost use Rattle.strata.specs.Levels.{above, asked, refusedLevels, foundLevels};
 ghost use Rattle.strata.specs.Laws.Raised.{EachSmall};
 use super::Levelling;
 use policy::Decisions;
+use policy::MOST_DECISIONS;
 use policy::Policy;
 use policy::Rule;
 
@@ -18,15 +19,15 @@ pub(crate) fn refused(n: u8) -> Levelling
 {
     Levelling {
         refusal: n,
-        level: [0u8; 128],
+        level: [0u8; MOST_DECISIONS],
     }
 }
 
 // The lowest level, from `own` up, that lies at least `step` above that of each decision of the list.
-fn above(level: &[u8; 128], step: u8, own: u8, list: Decisions) -> u8
+fn above(level: &[u8; MOST_DECISIONS], step: u8, own: u8, list: Decisions) -> u8
     requires { ⌜ EachSmall (now level) ⌝ }
     requires { ⌜ step ≤ 1 ⌝ }
-    requires { ⌜ ListFits 128 list ⌝ }
+    requires { ⌜ ListFits mostDecisions list ⌝ }
     ensures { λ r. ⌜ r ≡ above (now (level .entry)) step own (listed list) ⌝ }
 {
     let count = list.count as usize;
@@ -43,9 +44,9 @@ fn above(level: &[u8; 128], step: u8, own: u8, list: Decisions) -> u8
 }
 
 // The lowest level of its head, from the one it has up, that fits a rule.
-fn asked(level: &[u8; 128], rule: Rule) -> u8
+fn asked(level: &[u8; MOST_DECISIONS], rule: Rule) -> u8
     requires { ⌜ EachSmall (now level) ⌝ }
-    requires { ⌜ RuleFits 128 16 rule ⌝ }
+    requires { ⌜ RuleFits mostDecisions mostActions rule ⌝ }
     ensures { λ r. ⌜ r ≡ asked (now (level .entry)) rule ⌝ }
 {
     let ifs = rule.ifs;
@@ -63,7 +64,7 @@ pub(crate) fn lowest(policy: Policy) -> Levelling
     requires { ⌜ listsRise policy ≡ true ⌝ }
     ensures { λ r. ⌜ r ≡ foundLevels policy ⌝ }
 {
-    let mut level = [0u8; 128];
+    let mut level = [0u8; MOST_DECISIONS];
     let rules = policy.rules as usize;
     'rounds: loop {
         let mut raised = false;
