@@ -10,9 +10,9 @@ use Rattle.reader.specs.File.{draftOf}
 use Rattle.text.specs.Put.{refusedText}
 
 -- the levels found for a policy
-unfoldable pub levelsText : Policy → List ℕ
-levelsText p = refusedOr (foundLevels p .refusal) refusedText (each levelText (take (p .decisions) (foundLevels p .level)))
+unfoldable pub foundText : Policy → List ℕ
+foundText p = refusedOr (foundLevels p .refusal) refusedText (each levelText (take (p .decisions) (foundLevels p .level)))
 
 -- for the policy that a file drafts
-unfoldable pub textOf : List ℕ → List ℕ
-textOf s = refusedOr (draftOf s .refusal) refusedText (levelsText (draftOf s .policy))
+unfoldable pub levelsText : List ℕ → List ℕ
+levelsText s = refusedOr (draftOf s .refusal) refusedText (foundText (draftOf s .policy))

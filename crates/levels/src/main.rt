@@ -2,14 +2,14 @@
 ghost use Prim.Native.Nat.{_≤_};
 ghost use mathlib.Core.Path.{_≡_};
 ghost use lib.ListN.{length, take};
-ghost use Rattle.levels.specs.Printed.{textOf};
+ghost use Rattle.levels.specs.Printed.{levelsText};
 use base::smaller;
 use format::MOST_BYTES;
 
 // Puts the text for a file at the start of the buffer.
 fn put_found(buffer: &mut [u8], file: &[u8]) -> usize
     requires { ⌜ length (now buffer) ≡ 4096 ⌝ }
-    ensures { λ r. ⌜ take r (now (buffer .exit)) ≡ textOf (now (file .entry)) ⌝ }
+    ensures { λ r. ⌜ take r (now (buffer .exit)) ≡ levelsText (now (file .entry)) ⌝ }
     ensures { λ r. ⌜ r ≤ 4096 ⌝ }
     ensures { λ _. ⌜ length (now (buffer .exit)) ≡ 4096 ⌝ }
 {

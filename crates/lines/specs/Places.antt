@@ -13,7 +13,7 @@ use Rattle.lines.specs.declared.text.Spelt.{Spelt}
 use Rattle.lines.specs.declared.text.Spelt.the-variants.{Nothing, Number}
 use Rattle.lines.specs.declared.lists.Parts.{Parts}
 use Rattle.format.specs.Parser.{Outcome, refused, Parser, pure, times}
-use Rattle.format.specs.Format.{isNumber, spelt, fits}
+use Rattle.format.specs.Format.{isNumber, spelt, isList}
 use Rattle.base.specs.Lists.{filled}
 
 -- what a parser makes of the bytes from a place on; a refusal stays
@@ -48,7 +48,7 @@ before b (c ∷ s) = elim (eqb c b) [ true ↦ 0 | false ↦ suc (before b s) ]
 
 -- the decisions ds as the code holds them: whether they fit, and then the list
 pub record Held (n : ℕ) (ds : List ℕ) (p : Parts) : Type 0 where
-  pub same : p .fits ≡ fits n ds
+  pub same : p .fits ≡ isList n ds
   pub count : T (p .fits) → p .count ≡ length ds
   pub at : T (p .fits) → p .at ≡ filled 8 0 ds
 

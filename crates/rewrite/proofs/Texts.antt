@@ -17,14 +17,14 @@ use Rattle.writer.specs.declared.Written.the-variants.{Refused, Length}
 use Rattle.writer.specs.Writing.{fileText, Writes}
 use Rattle.writer.specs.Laws.Room.{answered-before, has-room}
 use Rattle.writer.specs.Laws.Drafts.{draft-short, draft-asked}
-use Rattle.rewrite.specs.Printed.{textOf}
+use Rattle.rewrite.specs.Printed.{rewriteText}
 use Rattle.rewrite.specs.Laws.{text-refused}
 
 -- the text stands in the buffer
 abbrev Whole : List ℕ → List ℕ → ℕ → Type 0
-Whole s after end = (take end after ≡ textOf s) × ((end ≤ longestFile) × (length after ≡ longestFile))
+Whole s after end = (take end after ≡ rewriteText s) × ((end ≤ longestFile) × (length after ≡ longestFile))
 
-refused-stands : (s : List ℕ) (n : ℕ) {before after : List ℕ} {end : ℕ} → length before ≡ longestFile → refusedText n ≡ textOf s
+refused-stands : (s : List ℕ) (n : ℕ) {before after : List ℕ} {end : ℕ} → length before ≡ longestFile → refusedText n ≡ rewriteText s
     → Puts before 0 (refusedText n) after end → Whole s after end
 refused-stands s n long e put =
     let all = whole longestFile long (omega (arith, refused-length n)) put in
@@ -53,10 +53,10 @@ module _ (s : List ℕ) {r : Reading} (same : r ≡ draftOf s) (before : List �
     -- or the file stands in the buffer
     pub file-written : (n : ℕ) (after : List ℕ) → length after ≡ length before → Writes (r .policy) (r .queries) before after (Length n)
         → Whole s after n
-    unfolding textOf
+    unfolding rewriteText
     file-written n after kept w =
         let known = answers (r .policy) _ (answered-before (r .policy) (r .queries) (length before) (w .0)) in
         let read : readOf s ≡ r = read-passed s r (sym same) none (known .levels) (known .weights) in
         let file = fileText (r .policy) (r .queries) in
-        let text : file ≡ textOf s = rw read (sym (answered (r .refusal) refusedText file none)) in
+        let text : file ≡ rewriteText s = rw read (sym (answered (r .refusal) refusedText file none)) in
         (w .2 ∙ text, (omega (arith, w .1, has-room (r .policy) (r .queries) (length before) (w .0)), kept ∙ long))

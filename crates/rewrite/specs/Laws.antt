@@ -7,13 +7,13 @@ use Rattle.reader.specs.File.{readOf}
 use Rattle.reader.specs.Claim.{AcceptedFile}
 use Rattle.reader.specs.Laws.States.{states}
 use Rattle.text.specs.Put.{refusedText}
-use Rattle.rewrite.specs.Printed.{textOf}
+use Rattle.rewrite.specs.Printed.{rewriteText}
 
-pub rewritten : (s : List ℕ) → AcceptedFile s → textOf s ≡ s
-unfolding textOf
+pub rewritten : (s : List ℕ) → AcceptedFile s → rewriteText s ≡ s
+unfolding rewriteText
 rewritten s accepted = answered _ refusedText _ accepted ∙ sym (states s accepted .draft .text)
 
 -- a refused file has its refusal as its text
-pub text-refused : (s : List ℕ) (n : ℕ) → readOf s .refusal ≡ n → ¬ (n ≡ 0) → textOf s ≡ refusedText n
-unfolding textOf
+pub text-refused : (s : List ℕ) (n : ℕ) → readOf s .refusal ≡ n → ¬ (n ≡ 0) → rewriteText s ≡ refusedText n
+unfolding rewriteText
 text-refused s n e some = rw e (refused n refusedText _ some)

@@ -6,5 +6,5 @@ use Rattle.reader.specs.File.{readOf}
 use Rattle.text.specs.Put.{refusedText}
 use Rattle.writer.specs.Writing.{fileText}
 
-unfoldable pub textOf : List ℕ → List ℕ
-textOf s = refusedOr (readOf s .refusal) refusedText (fileText (readOf s .policy) (readOf s .queries))
+unfoldable pub rewriteText : List ℕ → List ℕ
+rewriteText s = refusedOr (readOf s .refusal) refusedText (fileText (readOf s .policy) (readOf s .queries))

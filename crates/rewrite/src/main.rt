@@ -3,7 +3,7 @@ ghost use Prim.Native.Nat.{_≤_};
 ghost use mathlib.Core.Path.{_≡_};
 ghost use lib.ListN.{length, take};
 ghost use Rattle.format.specs.Bounds.{longestFile};
-ghost use Rattle.rewrite.specs.Printed.{textOf};
+ghost use Rattle.rewrite.specs.Printed.{rewriteText};
 use format::LONGEST_FILE;
 use format::MOST_BYTES;
 use writer::Written;
@@ -11,7 +11,7 @@ use writer::Written;
 // Puts the text for a file at the start of the buffer. The reader asks questions 1 to 4, and the writer 5 and 6.
 fn put_text(buffer: &mut [u8], file: &[u8]) -> usize
     requires { ⌜ length (now buffer) ≡ longestFile ⌝ }
-    ensures { λ r. ⌜ take r (now (buffer .exit)) ≡ textOf (now (file .entry)) ⌝ }
+    ensures { λ r. ⌜ take r (now (buffer .exit)) ≡ rewriteText (now (file .entry)) ⌝ }
     ensures { λ r. ⌜ r ≤ longestFile ⌝ }
     ensures { λ _. ⌜ length (now (buffer .exit)) ≡ longestFile ⌝ }
 {

@@ -12,8 +12,7 @@ use Rattle.engine.specs.Calls.{refusedOr}
 use Rattle.reader.specs.declared.Queries.{Queries}
 use Rattle.reader.specs.Cases.{text}
 use Rattle.format.specs.Text.{decimal, decimalBy}
-use Rattle.format.specs.Written.{lineOf, joined, commas, letterOf, each, levelText, actionText, ruleText, queryText}
-use Rattle.format.specs.Written.{entriesText, fileOf}
+use Rattle.format.specs.Written.{lineOf, joined, commas, letterOf, each, levelText, actionText, ruleText, queryText, entriesText, fileOf}
 use Rattle.writer.specs.declared.Written.the-variants.{Refused, Length}
 use Rattle.writer.specs.Writing.{queriesInRange, writeQuestions, writeOf, writeAfter}
 

@@ -13,8 +13,7 @@ use borrow.Author.Tests.{lt-ltb, le-ltb}
 use Rattle.base.specs.Every.{every}
 use Rattle.format.specs.Text.{decimal, decimalBy}
 use Rattle.format.specs.Format.{isDigit, isNumber, spelt}
-use Rattle.base.specs.Laws.Tests.{parts, or-left, or-right}
-use Rattle.base.specs.Laws.Tests.{between-iff, every-both}
+use Rattle.base.specs.Laws.Tests.{parts, or-left, or-right, between-iff, every-both}
 
 -- digits after digits go on from what the first spell
 spelt-append : (v : ℕ) (c d : List ℕ) → spelt v (c ++ d) ≡ spelt (spelt v c) d

@@ -16,9 +16,8 @@ use Rattle.policy.specs.Record.{listed, levelsOf, actionsOf, rulesOf}
 use Rattle.format.specs.Bounds.{longestFile}
 use Rattle.format.specs.Text.{decimal}
 use Rattle.format.specs.Written.{letterOf, commas, levelText, actionText, ruleText, queryText, entriesText, fileOf}
-use Rattle.format.specs.Laws.Lists.{fits-parts}
+use Rattle.format.specs.Laws.Lists.{list-parts, ReadableList}
 use Rattle.format.specs.Laws.Lengths.{decimal-length, line-length, each-length, commas-length}
-use Rattle.format.specs.Laws.Lists.{ReadableList}
 use Rattle.format.specs.Laws.Records.{ReadableAction, ReadableRule, ReadableQuery}
 use Rattle.format.specs.Laws.Policies.{ReadablePolicy}
 
@@ -26,7 +25,7 @@ use Rattle.format.specs.Laws.Policies.{ReadablePolicy}
 list-length : (n : ℕ) (ds : List ℕ) → n ≤ 128 → ReadableList n ds → length (commas ds) ≤ 31
 unfolding ReadableList
 list-length n ds h f =
-    let parts = fits-parts n ds (f .0) in
+    let parts = list-parts n ds (f .0) in
     omega (arith, parts .0, commas-length 3 ds (λ d m. decimal-length 2 d (omega (arith, parts .1 d m))))
 
 -- the texts of a kind, a level, an action, a rule and a query

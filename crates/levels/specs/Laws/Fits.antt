@@ -15,7 +15,7 @@ use Rattle.reader.specs.File.{draftOf}
 use Rattle.format.specs.Laws.Lengths.{ten-digits, line-length, each-length}
 use Rattle.text.specs.Put.{refusedText}
 use Rattle.text.specs.Laws.Entries.{refused-length}
-use Rattle.levels.specs.Printed.{levelsText, textOf}
+use Rattle.levels.specs.Printed.{foundText, levelsText}
 
 level-length : (l : ℕ) → length (levelText l) ≤ 17
 unfolding levelText
@@ -28,8 +28,8 @@ either-fits n text fits = elim (ℕ-discrete n 0) [
   | no some ↦ rw (refused n refusedText text some) (omega (arith, refused-length n))
 ]
 
-levels-fit : (p : Policy) → length (levelsText p) ≤ 4096
-unfolding levelsText
+levels-fit : (p : Policy) → length (foundText p) ≤ 4096
+unfolding foundText
 levels-fit p = either-fits (foundLevels p .refusal) (each levelText (take (p .decisions) (foundLevels p .level))) (λ none.
     omega (
       arith,
@@ -38,6 +38,6 @@ levels-fit p = either-fits (foundLevels p .refusal) (each levelText (take (p .de
       finds-levels p .found none .places,
     ))
 
-pub text-fits : (s : List ℕ) → length (textOf s) ≤ 4096
-unfolding textOf
-text-fits s = either-fits (draftOf s .refusal) (levelsText (draftOf s .policy)) (λ none. levels-fit (draftOf s .policy))
+pub text-fits : (s : List ℕ) → length (levelsText s) ≤ 4096
+unfolding levelsText
+text-fits s = either-fits (draftOf s .refusal) (foundText (draftOf s .policy)) (λ none. levels-fit (draftOf s .policy))

@@ -16,7 +16,7 @@ use Rattle.base.specs.Lists.{filled}
 use Rattle.reader.specs.File.{readingOf, draftOf, readOf}
 use Rattle.format.specs.Entries.{recordOf}
 use Rattle.base.specs.Laws.All.{all-of}
-use Rattle.reader.specs.Laws.Readings.{textOf, ReadableLines}
+use Rattle.reader.specs.Laws.Readings.{readingText, ReadableLines}
 use Rattle.format.specs.Laws.Policies.{ReadableEntries}
 use Rattle.reader.specs.Laws.Files.{drafted, read-passed, draft-complete}
 
@@ -87,4 +87,4 @@ levels-put s level e g levels weights =
     let r = draftOf s in
     let put = readingWith r level in
     let lines = lines-with r level (drafted s e .lines) g in
-    read-passed (textOf put) put (draft-complete put lines) refl (passes _ levels) (passes _ weights)
+    read-passed (readingText put) put (draft-complete put lines) refl (passes _ levels) (passes _ weights)

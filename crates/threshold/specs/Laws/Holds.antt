@@ -22,8 +22,7 @@ use Rattle.model.specs.Laws.Model.{is-model}
 use Rattle.base.specs.Lists.{filled}
 use Rattle.format.specs.Entries.{zeroRule, recordOf}
 use Rattle.format.specs.Laws.Lists.{listed-of}
-use Rattle.base.specs.Laws.Lists.{filled-front}
-use Rattle.base.specs.Laws.Lists.{filled-length}
+use Rattle.base.specs.Laws.Lists.{filled-front, filled-length}
 use Rattle.threshold.specs.AtLeast.{There, number, without, fewer, having, rulesFor, rows, atLeast, eight}
 use Rattle.threshold.specs.Laws.Taken.{rows-length, rules-are, accepted}
 use Rattle.threshold.specs.Laws.Numbers.{apart, is-rule, without-in, having-in, rows-at, rows-make}

@@ -9,8 +9,7 @@ use lib.Bits.{or-zero-r}
 use lib.Count.{ones}
 use lib.Dec.{T, lit<, eqb, eqb→eq}
 use lib.ListN.{length, getD, replicate}
-use Rattle.mask.specs.Mask.{has}
-use Rattle.mask.specs.Mask.{sized}
+use Rattle.mask.specs.Mask.{has, sized}
 use Rattle.mask.specs.Laws.{has-none, ⊆→<}
 use Rattle.base.specs.Laws.Tests.{same}
 use Rattle.mask.specs.Laws.Ones.{counted-ones, fewer-ones, same-size, one-fewer}

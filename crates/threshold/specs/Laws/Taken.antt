@@ -8,8 +8,7 @@ use Rattle.policy.specs.Questions.{levelsBelow, weightsFit, outweighs, heavier,
 use Rattle.format.specs.Entries.{recordOf, zeroRule}
 use Rattle.format.specs.Format.{decisionsOf}
 use Rattle.base.specs.Lists.{filled}
-use Rattle.threshold.specs.AtLeast.{decisionsTo, number, without, fewer, having, firstFor, rulesFor, row, rows, plain}
-use Rattle.threshold.specs.AtLeast.{atLeast, eight}
+use Rattle.threshold.specs.AtLeast.{decisionsTo, number, without, fewer, having, firstFor, rulesFor, row, rows, plain, atLeast, eight}
 
 -- so many decisions are there, and 192 rules
 pub hundred : decisionsTo 16 ≡ 100
