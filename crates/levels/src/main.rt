@@ -5,6 +5,7 @@ ghost use lib.ListN.{length, take};
 ghost use Rattle.levels.specs.Printed.{levelsText};
 use base::smaller;
 use format::MOST_BYTES;
+use policy::MOST_DECISIONS;
 
 // Puts the text for a file at the start of the buffer.
 fn put_found(buffer: &mut [u8], file: &[u8]) -> usize
@@ -23,7 +24,7 @@ fn put_found(buffer: &mut [u8], file: &[u8]) -> usize
         return text::refusal(buffer, 0, found.refusal);
     }
     let level = found.level;
-    let count = smaller(policy.decisions as usize, 128);
+    let count = smaller(policy.decisions as usize, MOST_DECISIONS);
     text::lines(buffer, 0, b"level=", &level[..count])
 }
 

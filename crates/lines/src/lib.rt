@@ -2,6 +2,7 @@
 ghost use Prim.Native.Nat.{_-_, _^_, _≤_};
 ghost use Rattle.format.specs.Format.{numberLine, kindLine};
 ghost use Rattle.lines.specs.Places.{Parsed};
+ghost use Rattle.policy.specs.Record.{mostActions};
 use policy::Kind;
 use text::Spelt;
 
@@ -56,7 +57,7 @@ pub fn number_line(s: &[u8], from: Place, key: &[u8], lo: u16, hi: u16) -> Numbe
 
 // A mask of m actions.
 pub fn mask_line(s: &[u8], from: Place, key: &[u8], m: u8) -> NumberAt
-    requires { ⌜ m ≤ 16 ⌝ }
+    requires { ⌜ m ≤ mostActions ⌝ }
     ensures { λ r. ⌜ Parsed (now (s .entry)) from (numberLine (now (key .entry)) 0 (2 ^ m - 1)) (r .place) (r .value) ⌝ }
 {
     let top = (1u32 << m) - 1;

@@ -7,7 +7,7 @@ use native.Mathlib.Omega.{arith}
 use lib.ListN.{length, take}
 use Rattle.policy.specs.declared.Policy.{Policy}
 use Rattle.format.specs.Bounds.{longestFile}
-use Rattle.reader.specs.declared.Queries.{Queries}
+use Rattle.policy.specs.declared.Queries.{Queries}
 use Rattle.writer.specs.declared.Written.the-variants.{Refused, Length}
 use Rattle.writer.specs.Writing.{Writes}
 use Rattle.writer.specs.Laws.Room.{has-room}

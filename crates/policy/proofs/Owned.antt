@@ -1,4 +1,4 @@
--- What owning a policy tells of it: its arrays are as long as its structs declare, and its weights have 16 bits.
+-- What owning a policy or its queries tells of them: arrays are as long as the structs declare, and weights have 16 bits.
 use Prim.Native.Nat.{ℕ, zero, suc, _≤_, _<_}
 use mathlib.Core.List.{List, [], _∷_, map, map-id}
 use mathlib.Core.Path.{_≡_}
@@ -13,11 +13,14 @@ use mir.Val.{Val}
 use Rattle.policy.specs.declared.Policy.{Policy}
 use Rattle.policy.specs.declared.Rule.{Rule}
 use Rattle.policy.specs.declared.Action.{Action}
+use Rattle.policy.specs.declared.Queries.{Queries}
 use Rattle.policy.specs.Record.{noRule, noAction, Eights, Sized}
 use Rattle.policy.proofs.Arrays.{length-mapped}
 use Rattle.policy.proofs.Policy as policy
 use Rattle.policy.proofs.Action as action
 use Rattle.policy.proofs.Rule as rule
+use Rattle.policy.proofs.Query as query
+use Rattle.policy.proofs.Queries as queries
 
 -- what owning one thing tells of it, owning a list of them tells of each
 module _ {X : Type 0} (D : Type 0) (own : D → List Val → Fml) (into : X → D) (P : X → Type 0) (none : X) where
@@ -57,3 +60,7 @@ policy-owned p vs own few =
       rules = count;
       lists = λ k less. eights k (omega arith);
     }
+
+-- the length of an array of queries
+pub queries-owned : (qs : Queries) (vs : List Val) → shadow (queries.the-row .own qs vs) → length (qs .at) ≡ 64
+queries-owned qs vs own = length-mapped _ _ (query.the-field .into) (qs .at) 64 (own .1 .1 .1 .0 .1 .0 .1)

@@ -5,7 +5,7 @@ use mathlib.Core.Path.{_≡_, subst}
 use native.Mathlib.Omega.{arith}
 use lib.ListN.{length, length-append}
 use Rattle.policy.specs.declared.Policy.{Policy}
-use Rattle.reader.specs.declared.Queries.{Queries}
+use Rattle.policy.specs.declared.Queries.{Queries}
 use Rattle.format.specs.Written.{fileOf}
 use Rattle.format.specs.Laws.Lengths.{line-length}
 use Rattle.writer.specs.declared.Written.{Written}

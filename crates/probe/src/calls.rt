@@ -11,6 +11,7 @@ use engine::Answer;
 use engine::Listing;
 use engine::MOST_SLIM;
 use engine::Verdict;
+use policy::MOST_DECISIONS;
 use policy::Policy;
 use policy::Query;
 
@@ -31,7 +32,7 @@ pub(crate) fn judge(policy: Policy, query: Query, offered: u16) {
 }
 
 // Writes the entries below the count.
-fn below(at: [u8; 128], count: usize) {
+fn below(at: [u8; MOST_DECISIONS], count: usize) {
     for i in 0..128 {
         if i < count {
             entry(i, at[i] as u16);
@@ -40,7 +41,7 @@ fn below(at: [u8; 128], count: usize) {
 }
 
 // The number of entries at or past the count that are not 0.
-fn tail(rules: [u8; 128], count: usize) -> u32 {
+fn tail(rules: [u8; MOST_DECISIONS], count: usize) -> u32 {
     let mut n = 0;
     for i in count..128 {
         if rules[i] != 0 {
@@ -72,7 +73,7 @@ pub(crate) fn levels(policy: Policy) {
 }
 
 // Writes the words below the count.
-fn words_below(word: [u64; 128], count: usize) {
+fn words_below(word: [u64; MOST_DECISIONS], count: usize) {
     for d in 0..128 {
         if d < count {
             long_entry(d, word[d]);
@@ -81,7 +82,7 @@ fn words_below(word: [u64; 128], count: usize) {
 }
 
 // The number of words at or past the count that are not 0.
-fn words_past(word: [u64; 128], count: usize) -> u32 {
+fn words_past(word: [u64; MOST_DECISIONS], count: usize) -> u32 {
     let mut n = 0;
     for d in count..128 {
         if word[d] != 0 {
@@ -103,7 +104,7 @@ pub(crate) fn words(policy: Policy, query: Query, w: u16) {
 }
 
 // The number so far, mixed with each word.
-fn mixed(n: u64, word: [u64; 128]) -> u64 {
+fn mixed(n: u64, word: [u64; MOST_DECISIONS]) -> u64 {
     let mut mix = n;
     for d in 0..128 {
         mix = mix ^ word[d];

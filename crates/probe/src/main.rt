@@ -4,8 +4,9 @@ use base::smaller;
 use format::MOST_BYTES;
 use out::keyed;
 use out::text;
+use policy::MOST_QUERIES;
 use policy::Policy;
-use reader::Queries;
+use policy::Queries;
 
 mod calls;
 mod lines;
@@ -22,7 +23,7 @@ fn answer(policy: Policy, queries: Queries) {
     text(b"\n");
     written::lines(policy, queries);
     let query = queries.at;
-    let count = smaller(queries.count as usize, 64);
+    let count = smaller(queries.count as usize, MOST_QUERIES);
     let mut i = 0;
     while i < count {
         let one = query[i];
@@ -39,7 +40,7 @@ fn answer(policy: Policy, queries: Queries) {
 // Writes the lines of a file with more than 8 actions: those of each query, and few of these.
 fn answer_many(policy: Policy, queries: Queries) {
     let query = queries.at;
-    let count = smaller(queries.count as usize, 64);
+    let count = smaller(queries.count as usize, MOST_QUERIES);
     let mut i = 0;
     while i < count {
         let one = query[i];

@@ -5,9 +5,9 @@ use crate::out::text;
 use crate::written;
 use policy::Decisions;
 use policy::Policy;
+use policy::Queries;
 use policy::Query;
 use policy::Rule;
-use reader::Queries;
 
 // Writes the line of a spoilt policy.
 fn line(name: &[u8], policy: Policy, query: Query, queries: Queries) {

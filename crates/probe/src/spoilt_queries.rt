@@ -8,10 +8,11 @@ use base::smaller;
 use policy::Action;
 use policy::Decisions;
 use policy::Kind;
+use policy::MOST_QUERIES;
 use policy::Policy;
+use policy::Queries;
 use policy::Query;
 use policy::Rule;
-use reader::Queries;
 
 // Writes the line of a buffer of so many bytes.
 fn line(name: &[u8], policy: Policy, queries: Queries, length: usize)
@@ -28,7 +29,7 @@ fn line(name: &[u8], policy: Policy, queries: Queries, length: usize)
 fn last_place(queries: Queries) -> usize
     ensures { λ r. ⌜ r ≤ 63 ⌝ }
 {
-    let count = smaller(queries.count as usize, 64);
+    let count = smaller(queries.count as usize, MOST_QUERIES);
     if count == 0 { 0 } else { count - 1 }
 }
 

@@ -8,7 +8,7 @@ use crate::out::text;
 use base::smaller;
 use format::LONGEST_FILE;
 use policy::Policy;
-use reader::Queries;
+use policy::Queries;
 use writer::Written;
 
 // The number of bytes that are stars.

@@ -8,7 +8,7 @@ use policy::Action;
 use policy::MOST_ACTIONS;
 
 // Whether each action has a weight, and an also mask of the actions there are.
-pub(crate) fn in_range(action: [Action; 16], count: u8) -> bool
+pub(crate) fn in_range(action: [Action; MOST_ACTIONS], count: u8) -> bool
     ensures { λ r. ⌜ r ≡ every (actionInRange count) (take count action) ⌝ }
 {
     let end = smaller(count as usize, MOST_ACTIONS);
@@ -24,7 +24,7 @@ pub(crate) fn in_range(action: [Action; 16], count: u8) -> bool
 }
 
 // Whether each action weighs more than each action in its also mask.
-pub(crate) fn fit(action: [Action; 16], count: u8) -> bool
+pub(crate) fn fit(action: [Action; MOST_ACTIONS], count: u8) -> bool
     ensures { λ r. ⌜ r ≡ every (outweighs action count) (take count action) ⌝ }
 {
     let end = smaller(count as usize, MOST_ACTIONS);

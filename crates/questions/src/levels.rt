@@ -8,7 +8,7 @@ use policy::HIGHEST_LEVEL;
 use policy::MOST_DECISIONS;
 
 // Whether each level is at most 15.
-pub(crate) fn in_range(level: [u8; 128], decisions: u8) -> bool
+pub(crate) fn in_range(level: [u8; MOST_DECISIONS], decisions: u8) -> bool
     ensures { λ r. ⌜ r ≡ every levelInRange (take decisions level) ⌝ }
 {
     let count = smaller(decisions as usize, MOST_DECISIONS);

@@ -10,10 +10,15 @@ use base::smaller;
 use policy::Action;
 use policy::Decisions;
 use policy::Kind;
+use policy::MOST_ACTIONS;
+use policy::MOST_DECISIONS;
+use policy::MOST_LISTED;
+use policy::MOST_QUERIES;
+use policy::MOST_RULES;
 use policy::Policy;
+use policy::Queries;
 use policy::Query;
 use policy::Rule;
-use reader::Queries;
 
 // Puts the line of a kind.
 fn put_kind(buffer: &mut [u8], at: usize, kind: Kind) -> usize
@@ -36,10 +41,10 @@ fn put_action(buffer: &mut [u8], at: usize, action: Action) -> usize
 }
 
 // Puts the lines of the first `count` actions.
-fn put_actions(buffer: &mut [u8], at: usize, action: [Action; 16], count: u8) -> usize
+fn put_actions(buffer: &mut [u8], at: usize, action: [Action; MOST_ACTIONS], count: u8) -> usize
     ensures { λ r. ⌜ Puts (now (buffer .entry)) at (each actionText (take count action)) (now (buffer .exit)) r ⌝ }
 {
-    let count = smaller(count as usize, 16);
+    let count = smaller(count as usize, MOST_ACTIONS);
     let mut end = at;
     let mut i = 0;
     while i < count {
@@ -56,7 +61,7 @@ fn put_list(buffer: &mut [u8], at: usize, key: &[u8], list: Decisions) -> usize
         (now (key .entry) ++ (commas (listed list) ++ ascii "\n")) (now (buffer .exit)) r ⌝ }
 {
     let decisions = list.at;
-    let count = smaller(list.count as usize, 8);
+    let count = smaller(list.count as usize, MOST_LISTED);
     text::list(buffer, at, key, &decisions[..count])
 }
 
@@ -73,10 +78,10 @@ fn put_rule(buffer: &mut [u8], at: usize, rule: Rule) -> usize
 }
 
 // Puts the lines of the first `count` rules.
-fn put_rules(buffer: &mut [u8], at: usize, rule: [Rule; 256], count: u16) -> usize
+fn put_rules(buffer: &mut [u8], at: usize, rule: [Rule; MOST_RULES], count: u16) -> usize
     ensures { λ r. ⌜ Puts (now (buffer .entry)) at (each ruleText (take count rule)) (now (buffer .exit)) r ⌝ }
 {
-    let count = smaller(count as usize, 256);
+    let count = smaller(count as usize, MOST_RULES);
     let mut end = at;
     let mut k = 0;
     while k < count {
@@ -96,10 +101,10 @@ fn put_query(buffer: &mut [u8], at: usize, query: Query) -> usize
 }
 
 // Puts the lines of the first `count` queries.
-fn put_queries(buffer: &mut [u8], at: usize, query: [Query; 64], count: u8) -> usize
+fn put_queries(buffer: &mut [u8], at: usize, query: [Query; MOST_QUERIES], count: u8) -> usize
     ensures { λ r. ⌜ Puts (now (buffer .entry)) at (each queryText (take count query)) (now (buffer .exit)) r ⌝ }
 {
-    let count = smaller(count as usize, 64);
+    let count = smaller(count as usize, MOST_QUERIES);
     let mut end = at;
     let mut i = 0;
     while i < count {
@@ -117,7 +122,7 @@ fn put_entries(buffer: &mut [u8], at: usize, policy: Policy) -> usize
     let level = policy.level;
     let action = policy.action;
     let rule = policy.rule;
-    let decisions = smaller(policy.decisions as usize, 128);
+    let decisions = smaller(policy.decisions as usize, MOST_DECISIONS);
     let at = text::lines(buffer, at, b"level=", &level[..decisions]);
     let at = put_actions(buffer, at, action, policy.actions);
     let at = text::line(buffer, at, b"rules=", policy.rules as u32);

@@ -16,6 +16,7 @@ use engine::Choice;
 use engine::Firing;
 use engine::Listing;
 use engine::MOST_SLIM;
+use policy::MOST_DECISIONS;
 use policy::Policy;
 use policy::Query;
 
@@ -50,7 +51,7 @@ fn work(policy: Policy, query: Query, places: &mut [u16; MOST_SLIM]) -> QueryRes
             firing: Firing {
                 refusal: 0,
                 count: 0,
-                rules: [0u8; 128],
+                rules: [0u8; MOST_DECISIONS],
             },
         },
     }
@@ -98,7 +99,7 @@ fn put_fired(buffer: &mut [u8], at: usize, firing: Firing) -> usize
         (lineOf (ascii "fired") (commas (take (firing .count) (firing .rules)))) (now (buffer .exit)) r ⌝ }
 {
     let rules = firing.rules;
-    let count = smaller(firing.count as usize, 128);
+    let count = smaller(firing.count as usize, MOST_DECISIONS);
     text::list(buffer, at, b"fired=", &rules[..count])
 }
 

@@ -3,21 +3,26 @@ ghost use mathlib.Core.Path.{_≡_};
 ghost use Rattle.format.specs.Entries.{zeroRule};
 ghost use Rattle.base.specs.Lists.{filled};
 ghost use Rattle.threshold.specs.AtLeast.{plain, rows, atLeast, stated};
+ghost use Rattle.policy.specs.Record.{mostRules};
 use policy::Action;
 use policy::Kind;
+use policy::MOST_ACTIONS;
+use policy::MOST_DECISIONS;
+use policy::MOST_QUERIES;
+use policy::MOST_RULES;
 use policy::Policy;
+use policy::Queries;
 use policy::Query;
 use policy::Rule;
-use reader::Queries;
 
 mod numbers;
 mod parts;
 
 // The rules of all decisions in order, and zeros past them.
-fn rules() -> [Rule; 256]
-    ensures { λ r. ⌜ r ≡ filled 256 zeroRule (rows 16) ⌝ }
+fn rules() -> [Rule; MOST_RULES]
+    ensures { λ r. ⌜ r ≡ filled mostRules zeroRule (rows 16) ⌝ }
 {
-    let mut rule = [format::zero_rule(); 256];
+    let mut rule = [format::zero_rule(); MOST_RULES];
     let mut k = 0;
     for i in 1..17 {
         for j in 1..numbers::wide(i) + 1 {
@@ -47,8 +52,8 @@ fn plain() -> Action
 pub fn policy() -> Policy
     ensures { λ r. ⌜ r ≡ atLeast ⌝ }
 {
-    let level = [0u8; 128];
-    let action = [plain(); 16];
+    let level = [0u8; MOST_DECISIONS];
+    let action = [plain(); MOST_ACTIONS];
     let rule = rules();
     Policy {
         decisions: 100,
@@ -64,7 +69,7 @@ pub fn policy() -> Policy
 pub fn queries() -> Queries
     ensures { λ r. ⌜ r ≡ stated .queries ⌝ }
 {
-    let mut at = [Query { want: 0, done: 0 }; 64];
+    let mut at = [Query { want: 0, done: 0 }; MOST_QUERIES];
     at[0].want = numbers::number(16, 8);
     Queries { count: 1, at }
 }

@@ -100,7 +100,7 @@ pub fn model(policy: Policy, query: Query, plan: Plan, w: u16) -> [u64; MOST_DEC
     requires { ⌜ w ≤ 1023 ⌝ }
     ensures { λ r. ⌜ r ≡ modelOf policy query w ⌝ }
 {
-    worked(policy, query, plan, w, 16)
+    worked(policy, query, plan, w, LEVELS)
 }
 
 // The sets of the word w that clear the decision wanted. The levels above its own are left out.

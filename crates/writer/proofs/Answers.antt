@@ -12,9 +12,9 @@ use Rattle.policy.proofs.Policy as policy
 use Rattle.policy.proofs.Owned.{policy-owned}
 use Rattle.engine.specs.Meaning.{AllYes}
 use Rattle.engine.specs.Laws.Refusals.{refused}
-use Rattle.reader.specs.declared.Queries.{Queries}
-use Rattle.reader.proofs.Queries as queries
-use Rattle.reader.proofs.Owned.{queries-owned}
+use Rattle.policy.specs.declared.Queries.{Queries}
+use Rattle.policy.proofs.Queries as queries
+use Rattle.policy.proofs.Owned.{queries-owned}
 use Rattle.writer.specs.declared.Written.{Written}
 use Rattle.writer.specs.declared.Written.the-variants.{Refused, Length}
 use Rattle.writer.specs.Writing.{queriesInRange, recordQuestions, fileText, writeQuestions, writeOf, writeAfter, Writes}

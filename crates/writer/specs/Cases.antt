@@ -9,7 +9,7 @@ use Rattle.policy.specs.Questions.{firstNo, questions, inRange, othersInRange, 
 use Rattle.policy.specs.Questions.{ruleInRange, listInRange, listsRise, ruleRises, rises, levelsFit, ruleLevelsFit, levelsBelow}
 use Rattle.policy.specs.Questions.{weightsFit, outweighs, heavier, queryInRange}
 use Rattle.engine.specs.Calls.{refusedOr}
-use Rattle.reader.specs.declared.Queries.{Queries}
+use Rattle.policy.specs.declared.Queries.{Queries}
 use Rattle.reader.specs.Cases.{text}
 use Rattle.format.specs.Text.{decimal, decimalBy}
 use Rattle.format.specs.Written.{lineOf, joined, commas, letterOf, each, levelText, actionText, ruleText, queryText, entriesText, fileOf}

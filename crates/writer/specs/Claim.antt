@@ -7,7 +7,7 @@ use Rattle.policy.specs.declared.Policy.{Policy}
 use Rattle.policy.specs.Record.{Agree, Sized}
 use Rattle.engine.specs.Meaning.{AllYes}
 use Rattle.format.specs.Bounds.{longestFile}
-use Rattle.reader.specs.declared.Queries.{Queries}
+use Rattle.policy.specs.declared.Queries.{Queries}
 use Rattle.reader.specs.File.{readOf}
 use Rattle.reader.specs.Claim.{AcceptedFile}
 use Rattle.writer.specs.declared.Written.the-variants.{Length}

@@ -10,7 +10,7 @@ use Rattle.policy.specs.declared.Policy.{Policy}
 use Rattle.policy.specs.Questions.{Question, firstNo, questions, queryInRange}
 use Rattle.engine.specs.Calls.{refusedOr}
 use Rattle.engine.specs.Meaning.{Refuses, AllYes}
-use Rattle.reader.specs.declared.Queries.{Queries}
+use Rattle.policy.specs.declared.Queries.{Queries}
 use Rattle.reader.specs.File.{readOf}
 use Rattle.format.specs.Written.{fileOf}
 use Rattle.reader.specs.Cleared.{clearedReading}

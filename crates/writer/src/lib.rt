@@ -4,11 +4,13 @@ ghost use mathlib.Core.Path.{_≡_};
 ghost use lib.Dec.{leb};
 ghost use lib.ListN.{length, take};
 ghost use Rattle.base.specs.Every.{every};
+ghost use Rattle.policy.specs.Record.{mostQueries};
 ghost use Rattle.policy.specs.Questions.{isQuery};
 ghost use Rattle.writer.specs.Writing.{writeOf, writeAfter, Writes};
 use format::LONGEST_FILE;
+use policy::MOST_QUERIES;
 use policy::Policy;
-use reader::Queries;
+use policy::Queries;
 
 // What write answers: the number of the question answered no, or the length of the file written.
 pub enum Written {
@@ -18,13 +20,13 @@ pub enum Written {
 
 // Question 3 of the queries, where there are so many decisions and actions: are they at most 64, and each in range?
 fn queries_in_range(queries: Queries, decisions: u8, actions: u8) -> bool
-    ensures { λ r. ⌜ r ≡ (leb (queries .count) 64 && every (isQuery decisions actions) (take (queries .count) (queries .at))) ⌝ }
+    ensures { λ r. ⌜ r ≡ (leb (queries .count) mostQueries && every (isQuery decisions actions) (take (queries .count) (queries .at))) ⌝ }
 {
-    if queries.count > 64 {
+    let count = queries.count as usize;
+    if count > MOST_QUERIES {
         return false;
     }
     let query = queries.at;
-    let count = queries.count as usize;
     let mut i = 0;
     while i < count {
         let one = query[i];

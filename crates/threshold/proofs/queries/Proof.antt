@@ -4,7 +4,7 @@ use mathlib.Core.List.{_∷_}
 use mathlib.Core.Path.{ap}
 use borrow.Author.Needs.{needs}
 use lib.ListN.{replicate}
-use Rattle.reader.specs.declared.Queries.{Queries}
+use Rattle.policy.specs.declared.Queries.{Queries}
 use Rattle.reader.specs.File.{readingOf}
 use Rattle.format.specs.Entries.{zeroQuery}
 use Rattle.base.specs.Lists.{filled}

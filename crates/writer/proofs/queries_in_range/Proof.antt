@@ -14,10 +14,10 @@ use Rattle.writer.proofs.queries_in_range.Statement.{statement}
 use Rattle.writer.proofs.queries_in_range.Tie as tie
 
 abbrev Inv-loop : tie.InvT-loop
-Inv-loop decisions actions query count i₀ i = Passed (isQuery decisions actions) query 64 count i
+Inv-loop decisions actions count query i₀ i = Passed (isQuery decisions actions) query 64 count i
 
 abbrev μ-loop : tie.MeasureT-loop
-μ-loop decisions actions query count i₀ i = count - i
+μ-loop decisions actions count query i₀ i = count - i
 
 returns : tie.Need-returns Inv-loop μ-loop
 returns c = rw (lt-leb _ 64 (c .if1 .taken))
@@ -28,7 +28,7 @@ loop-holds c = passed-none (search (needs, length-mapped)) (omega arith)
 returns-2 : tie.Need-returns-2 Inv-loop μ-loop
 returns-2 c =
     let top = c .before .before .before .before in
-    let short = top .before .before .before .if1 .left in
+    let short = top .before .before .if1 .left in
     rw (le-leb _ 64 short) (passed-fails (top .loop .inv) zeroQuery _ (sym (min-eq-left short)) (omega arith)
     (tested-no (c .before .query-in-range .ensures) (c .if2 .taken)))
 
@@ -40,13 +40,13 @@ loop-again c =
 returns-3 : tie.Need-returns-3 Inv-loop μ-loop
 returns-3 c =
     let top = c .before in
-    let short = top .before .before .before .if1 .left in
+    let short = top .before .before .if1 .left in
     rw (le-leb _ 64 short) (passed-all (top .loop .inv) _ (sym (min-eq-left short)) (c .loop-test .left))
 
 pub queries-in-range-spec : {M : Type 1} → statement M
 queries-in-range-spec =
     tie.close
     (tie.spec
-    Inv-loop μ-loop returns (λ c. search needs) loop-holds (λ c. search needs) (λ c. search needs) (λ c κs. search needs) returns-2
+    Inv-loop μ-loop (λ c. search needs) returns loop-holds (λ c. search needs) (λ c. search needs) (λ c κs. search needs) returns-2
     (λ c. search needs) (λ c. search needs)
     loop-again returns-3)

@@ -16,7 +16,7 @@ use Rattle.engine.specs.Calls.{refusedOr}
 use Rattle.engine.specs.Meaning.{AllYes}
 use Rattle.engine.specs.Laws.Refusals.{answered}
 use Rattle.format.specs.Bounds.{longestFile}
-use Rattle.reader.specs.declared.Queries.{Queries}
+use Rattle.policy.specs.declared.Queries.{Queries}
 use Rattle.reader.specs.declared.Reading.{Reading}
 use Rattle.reader.specs.File.{readOf}
 use Rattle.format.specs.Entries.{zeroQuery}
