@@ -1,4 +1,5 @@
--- The lines read their texts and no others; how long a text is; a cleared record answers as the record does.
+-- The lines read their texts and no others; how long a text is; and a record with zeros past its counts has the same text and
+-- answers.
 pub mod Reads
 pub mod Numbers
 pub mod Lines
@@ -9,3 +10,4 @@ pub mod Asked
 pub mod Lengths
 pub mod Size
 pub mod Lookups
+pub mod Stated

@@ -12,7 +12,7 @@ use Rattle.policy.specs.Laws.Cut.{listed-cut, levels-cut, actions-cut, rules-cu
 use Rattle.engine.specs.Laws.Alike.{refused-same}
 use Rattle.policy.specs.declared.Queries.{Queries}
 use Rattle.format.specs.Written.{ruleText, entriesText, fileOf}
-use Rattle.reader.specs.Laws.Back.{texts-same}
+use Rattle.format.specs.Laws.Stated.{texts-same}
 use Rattle.writer.specs.Writing.{queriesInRange, fileText, writeQuestions, writeOf, writeAfter}
 use Rattle.writer.specs.Claim.{cutQueries, AgreeQueries, SameFile}
 
