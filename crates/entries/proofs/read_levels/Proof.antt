@@ -1,4 +1,4 @@
--- `reader::entries::read_levels` meets its contract: the array has what the turns so far read.
+-- `entries::read_levels` meets its contract: the array has what the turns so far read.
 use Prim.Native.Nat.{_-_, _≤_}
 use mathlib.Core.Path.{refl}
 use native.Mathlib.Omega.{arith}
@@ -8,8 +8,8 @@ use Rattle.format.specs.Format.{numberLine}
 use Rattle.base.specs.Lists.{filled}
 use Rattle.lines.specs.Places.{ParsedTimes}
 use Rattle.lines.proofs.Steps.{begins, turns, all-turns}
-use Rattle.reader.proofs.entries.read_levels.Statement.{statement}
-use Rattle.reader.proofs.entries.read_levels.Tie as tie
+use Rattle.entries.proofs.read_levels.Statement.{statement}
+use Rattle.entries.proofs.read_levels.Tie as tie
 
 abbrev Inv-loop : tie.InvT-loop
 Inv-loop s n array₀ place₀ i₀ _ i-end array place i = ParsedTimes s place₀ i (numberLine (ascii "level") 0 15) place 128 0 array × (i ≤ n)
