@@ -1,4 +1,4 @@
--- The digits that `io::decimal` writes are those of the reader's texts.
+-- The digits that `io::decimal` writes are those of the format.
 use Prim.Native.Nat.{ℕ, zero, suc, _+_, _-_, _/_, _%_, _^_, _≤_, _<_}
 use mathlib.Core.Path.{_≡_, sym, ap}
 use mathlib.Core.List.{[], _∷_, _++_}
