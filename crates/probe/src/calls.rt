@@ -33,7 +33,7 @@ pub(crate) fn judge(policy: Policy, query: Query, offered: u16) {
 
 // Writes the entries below the count.
 fn below(at: [u8; MOST_DECISIONS], count: usize) {
-    for i in 0..128 {
+    for i in 0..MOST_DECISIONS {
         if i < count {
             entry(i, at[i] as u16);
         }
@@ -43,7 +43,7 @@ fn below(at: [u8; MOST_DECISIONS], count: usize) {
 // The number of entries at or past the count that are not 0.
 fn tail(rules: [u8; MOST_DECISIONS], count: usize) -> u32 {
     let mut n = 0;
-    for i in count..128 {
+    for i in count..MOST_DECISIONS {
         if rules[i] != 0 {
             n += 1;
         }
@@ -69,12 +69,12 @@ pub(crate) fn levels(policy: Policy) {
     let level = found.level;
     keyed(b"refusal=", found.refusal as u32);
     text(b" level=");
-    below(level, 128);
+    below(level, MOST_DECISIONS);
 }
 
 // Writes the words below the count.
 fn words_below(word: [u64; MOST_DECISIONS], count: usize) {
-    for d in 0..128 {
+    for d in 0..MOST_DECISIONS {
         if d < count {
             long_entry(d, word[d]);
         }
@@ -84,7 +84,7 @@ fn words_below(word: [u64; MOST_DECISIONS], count: usize) {
 // The number of words at or past the count that are not 0.
 fn words_past(word: [u64; MOST_DECISIONS], count: usize) -> u32 {
     let mut n = 0;
-    for d in count..128 {
+    for d in count..MOST_DECISIONS {
         if word[d] != 0 {
             n += 1;
         }
@@ -106,7 +106,7 @@ pub(crate) fn words(policy: Policy, query: Query, w: u16) {
 // The number so far, mixed with each word.
 fn mixed(n: u64, word: [u64; MOST_DECISIONS]) -> u64 {
     let mut mix = n;
-    for d in 0..128 {
+    for d in 0..MOST_DECISIONS {
         mix = mix ^ word[d];
         mix = mix ^ (mix << 13);
         mix = mix ^ (mix >> 7);
