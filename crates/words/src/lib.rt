@@ -60,7 +60,8 @@ fn enabling(
 ) -> [u64; MOST_RULES]
     requires { ⌜ count ≤ mostRules ⌝ }
     requires { ⌜ ((j : ℕ) → j < count → getD (now order) j 0 < mostRules) ⌝ }
-    ensures { λ r. ⌜ Tabled (λ j. neededOf (now (fours .entry)) (ruleOf policy (getD (now (order .entry)) j 0) .needs) sets) mostRules r count ⌝ }
+    ensures { λ r. ⌜ Tabled (λ j. neededOf (now (fours .entry)) (ruleOf policy (getD (now (order .entry)) j 0) .needs) sets)
+        mostRules r count ⌝ }
     ensures { λ r. ⌜ AreWords mostRules r ⌝ }
 {
     let mut enabled = [0u64; MOST_RULES];

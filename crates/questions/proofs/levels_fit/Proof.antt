@@ -23,7 +23,8 @@ returns : tie.Need-returns Inv-loop μ-loop
 unfolding levelsFit
 returns c =
     let top = c .before .before .before .before in
-    passed-fails (top .loop .inv) noRule _ (top .before .smaller .ensures) (omega arith) (tested-no (c .before .fit .ensures) (c .if1 .taken))
+    passed-fails (top .loop .inv) noRule _ (top .before .smaller .ensures) (omega arith)
+    (tested-no (c .before .fit .ensures) (c .if1 .taken))
 
 loop-again : tie.Need-loop-again Inv-loop μ-loop
 loop-again c =
