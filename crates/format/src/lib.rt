@@ -7,6 +7,7 @@ ghost use Rattle.format.specs.Entries.{zeroRule};
 use policy::Action;
 use policy::Decisions;
 use policy::Kind;
+use policy::MOST_LISTED;
 use policy::Rule;
 
 // A file has at most so many bytes.
@@ -19,7 +20,7 @@ pub const LONGEST_FILE: usize = 27294;
 pub fn list_of_none() -> Decisions
     ensures { λ r. ⌜ r ≡ decisionsOf [] ⌝ }
 {
-    let at = [0u8; 8];
+    let at = [0u8; MOST_LISTED];
     Decisions { count: 0, at }
 }
 

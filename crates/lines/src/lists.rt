@@ -8,6 +8,7 @@ use crate::Place;
 use crate::text;
 use crate::text::Spelt;
 use policy::Decisions;
+use policy::MOST_LISTED;
 
 pub struct ListAt {
     pub place: Place,
@@ -19,7 +20,7 @@ pub struct Parts {
     pub numbers: bool,
     pub fits: bool,
     pub count: u8,
-    pub at: [u8; 8],
+    pub at: [u8; MOST_LISTED],
 }
 
 // The parts with one more decision.
@@ -53,7 +54,7 @@ fn parts_of(c: &[u8], n: u8) -> Parts
         numbers: true,
         fits: true,
         count: 0,
-        at: [0; 8],
+        at: [0; MOST_LISTED],
     };
     if c.len() == 0 {
         return p;
