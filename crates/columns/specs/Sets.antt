@@ -5,9 +5,9 @@ use lib.Dec.{ltb, leb}
 use lib.Bits.{bitAnd, bitOr}
 use lib.ListN.{getD}
 use mathlib.Core.List.{List}
+use Rattle.base.specs.Lists.{table}
 use Rattle.mask.specs.Mask.{has, contains, disjoint}
 use Rattle.mask.specs.Packed.{packed}
-use Rattle.base.specs.Lists.{table}
 
 -- the i-th set
 abbrev pub setAt : ℕ → ℕ → ℕ

@@ -12,8 +12,8 @@ use Rattle.columns.specs.Sets.{setAt, picked}
 use Rattle.columns.specs.Laws.Columns.{lows}
 
 -- the number of words that hold the sets of so many actions
-abbrev pub wordsOf : ℕ → ℕ
-wordsOf actions = (2 ^ actions + 63) / 64
+abbrev pub wordCount : ℕ → ℕ
+wordCount actions = (2 ^ actions + 63) / 64
 
 -- the word has those of its 64 sets that pass the test
 pub record Marks (test : ℕ → Bool) (w word : ℕ) : Type 0 where

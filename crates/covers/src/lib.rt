@@ -2,7 +2,7 @@
 // minimal members. The table is filled from the first word on.
 ghost use mathlib.Core.Path.{_≡_};
 ghost use Prim.Native.Nat.{_^_, _≤_, _<_};
-ghost use Rattle.covers.specs.Covers.{wordsOf, moved, closedOf, lessOf, lowOf, coveredOf, slimOf};
+ghost use Rattle.covers.specs.Covers.{wordCount, moved, closedOf, lessOf, lowOf, coveredOf, slimOf};
 ghost use Rattle.policy.specs.Record.{mostActions};
 use columns::WORDS;
 
@@ -82,7 +82,7 @@ pub fn sets_of(actions: u8) -> usize
 // The number of words that hold them.
 pub fn words_of(actions: u8) -> usize
     requires { ⌜ actions ≤ mostActions ⌝ }
-    ensures { λ r. ⌜ r ≡ wordsOf actions ⌝ }
+    ensures { λ r. ⌜ r ≡ wordCount actions ⌝ }
 {
     (sets_of(actions) + 63) / 64
 }

@@ -8,6 +8,7 @@ use lib.ListN.{length, drop}
 use Rattle.policy.specs.declared.Policy.{Policy}
 use Rattle.policy.specs.declared.Query.{Query}
 use Rattle.policy.specs.Questions.{Question, firstNo, queryQuestions, Accepted}
+use Rattle.weight.specs.Cost.{costOf}
 use Rattle.engine.specs.declared.Verdict.{Verdict}
 use Rattle.engine.specs.declared.Verdict.the-variants.{Refused as judge-refused, Judged}
 use Rattle.engine.specs.declared.Answer.{Answer}
@@ -15,7 +16,6 @@ use Rattle.engine.specs.declared.Answer.the-variants.{Refused as choose-
 use Rattle.engine.specs.declared.Listing.{Listing}
 use Rattle.engine.specs.declared.Listing.the-variants.{Refused as list-refused, Listed}
 use Rattle.engine.specs.Sets.{Enough, Best, BestKeep, Lists}
-use Rattle.weight.specs.Cost.{costOf}
 use Rattle.engine.specs.Calls.{offerQuestions, listQuestions, slimSets}
 
 -- n is the number of the first question answered no

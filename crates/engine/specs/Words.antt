@@ -10,12 +10,12 @@ use Rattle.mask.specs.Mask.{has}
 use Rattle.policy.specs.declared.Policy.{Policy}
 use Rattle.policy.specs.declared.Query.{Query}
 use Rattle.policy.specs.Questions.{Question, firstNo, questions, queryInRange, queryQuestions, Accepted}
+use Rattle.weight.specs.Cost.{costOf}
 use Rattle.columns.specs.Sets.{setAt}
 use Rattle.words.specs.Models.{asking, modelOf}
 use Rattle.engine.specs.declared.WordModel.{WordModel}
 use Rattle.engine.specs.declared.Verdict.the-variants.{Judged}
 use Rattle.engine.specs.Sets.{Offered, Enough}
-use Rattle.weight.specs.Cost.{costOf}
 use Rattle.engine.specs.Calls.{refusedOr, judgeOf}
 use Rattle.engine.specs.Meaning.{Refuses}
 

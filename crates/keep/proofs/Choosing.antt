@@ -10,8 +10,8 @@ use native.Mathlib.Numerals.{add-one}
 use native.Mathlib.Omega.{arith}
 use lib.Count.{ones, ones-le}
 use Rattle.mask.specs.Family.{lighter, lightest}
-use Rattle.keep.specs.Keep.{foundOr0}
 use Rattle.mask.specs.Laws.Lightest.{lighter-none, lighter-new, lighter-old, lightest-skip, lightest-more}
+use Rattle.keep.specs.Keep.{foundOr0}
 
 -- the mask and its ones stand for what is found: 0 and 17 for nothing
 pub data Stands : ℕ → ℕ → Option ℕ → Type 0 where

@@ -3,8 +3,8 @@ use Prim.Native.Nat.{ℕ, _^_}
 use mathlib.Core.Bool.{Bool, _&&_, not}
 use mathlib.Core.Option.{Option, none, some}
 use lib.Count.{ones}
-use Rattle.mask.specs.Mask.{contains, disjoint}
 use Rattle.base.specs.Every.{someBelow}
+use Rattle.mask.specs.Mask.{contains, disjoint}
 use Rattle.mask.specs.Family.{lightest}
 use Rattle.columns.specs.Sets.{isOffered}
 

@@ -4,8 +4,8 @@ use mathlib.Core.Bool.{Bool, _&&_, not}
 use mathlib.Core.List.{List}
 use lib.Bits.{bitOr}
 use lib.Dec.{eqb}
-use Rattle.mask.specs.Mask.{disjoint}
 use Rattle.base.specs.Every.{someBelow}
+use Rattle.mask.specs.Mask.{disjoint}
 use Rattle.mask.specs.Laws.Packed.{minus}
 use Rattle.policy.specs.declared.Policy.{Policy}
 use Rattle.policy.specs.Record.{ruleOf}

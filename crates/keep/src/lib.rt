@@ -10,7 +10,7 @@ ghost use Rattle.policy.specs.Questions.{Accepted};
 ghost use Rattle.model.specs.Clears.{clears};
 ghost use Rattle.words.specs.Known.{Known};
 ghost use Rattle.words.specs.Plan.{Planned};
-ghost use Rattle.covers.specs.Covers.{wordsOf, Members, Table};
+ghost use Rattle.covers.specs.Covers.{wordCount, Members, Table};
 ghost use Rattle.keep.specs.Keep.{foundOr0, spoilt, keepOf};
 ghost use Rattle.keep.specs.Search.{someUnless, unmarked};
 ghost use Rattle.policy.specs.Record.{mostActions, mostRules};
@@ -74,7 +74,7 @@ fn mark(
     requires { ⌜ Planned policy query (plan .base) (plan .leads) (plan .rules) (plan .start) (plan .uses) ⌝ }
     requires { ⌜ Known policy query (now cleared) (now known) ⌝ }
     requires { ⌜ length (now table) ≡ 1024 ⌝ }
-    ensures { λ r. ⌜ Table (covered (spoilt (clears policy query) (policy .actions) set (query .done))) (wordsOf (policy .actions))
+    ensures { λ r. ⌜ Table (covered (spoilt (clears policy query) (policy .actions) set (query .done))) (wordCount (policy .actions))
         (now (table .exit)) ⌝ }
 {
     let count = covers::words_of(policy.actions);

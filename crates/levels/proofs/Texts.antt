@@ -4,13 +4,13 @@ use mathlib.Core.List.{List}
 use mathlib.Core.Path.{_≡_, refl, sym, _∙_}
 use lib.ListN.{take}
 use Rattle.strata.specs.declared.Levelling.{Levelling}
-use Rattle.engine.specs.Calls.{refusedOr}
 use Rattle.strata.specs.Levels.{foundLevels}
+use Rattle.engine.specs.Calls.{refusedOr}
 use Rattle.engine.specs.Laws.Refusals.{answered, refused}
-use Rattle.reader.specs.declared.Reading.{Reading}
-use Rattle.reader.specs.File.{draftOf}
 use Rattle.format.specs.Written.{levelText, each}
 use Rattle.text.specs.Put.{refusedText}
+use Rattle.reader.specs.declared.Reading.{Reading}
+use Rattle.reader.specs.File.{draftOf}
 use Rattle.levels.specs.Printed.{foundText, levelsText}
 
 -- the text by what the calls return, a draft and the levels found for it

@@ -3,11 +3,11 @@ use Prim.Native.Nat.{ℕ}
 use mathlib.Core.List.{List}
 use lib.ListN.{take}
 use Rattle.policy.specs.declared.Policy.{Policy}
-use Rattle.engine.specs.Calls.{refusedOr}
 use Rattle.strata.specs.Levels.{foundLevels}
+use Rattle.engine.specs.Calls.{refusedOr}
 use Rattle.format.specs.Written.{each, levelText}
-use Rattle.reader.specs.File.{draftOf}
 use Rattle.text.specs.Put.{refusedText}
+use Rattle.reader.specs.File.{draftOf}
 
 -- the levels found for a policy
 unfoldable pub foundText : Policy → List ℕ

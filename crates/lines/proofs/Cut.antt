@@ -8,14 +8,14 @@ use lib.ListN.{length, take, drop, drop-of-length-le}
 use lib.Seq.{drop-drop}
 use lib.Dec.{eqb}
 use Rattle.base.specs.Every.{every}
+use Rattle.base.specs.Laws.Tests.{every-snoc, every-fails}
+use Rattle.format.specs.Format.{isNumber, spelt, push, cut, parts}
 use Rattle.lines.specs.declared.lists.Parts.{Parts}
 use Rattle.lines.specs.declared.text.Spelt.{Spelt}
 use Rattle.lines.specs.declared.text.Spelt.the-variants.{Nothing, Number}
-use Rattle.format.specs.Format.{isNumber, spelt, push, cut, parts}
 use Rattle.lines.specs.Places.{numberOf, before, Held, Stated}
 use Rattle.lines.proofs.Bytes.{from}
 use Rattle.lines.proofs.Numbers.{refuted, told}
-use Rattle.base.specs.Laws.Tests.{every-snoc, every-fails}
 
 -- contents that are not there have no parts
 pub parts-none : (c : List ℕ) → length c ≡ 0 → parts c ≡ []

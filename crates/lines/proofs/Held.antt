@@ -7,15 +7,15 @@ use native.Mathlib.Omega.{arith}
 use lib.ListN.{length-append, take, set}
 use lib.Dec.{T}
 use Rattle.base.specs.Every.{every}
+use Rattle.base.specs.Lists.{filled}
+use Rattle.base.specs.Laws.Lists.{filled-snoc}
 use Rattle.policy.specs.declared.Decisions.{Decisions}
 use Rattle.policy.specs.Record.{listed}
 use Rattle.format.specs.Laws.Lists.{listed-of}
-use Rattle.lines.specs.declared.lists.Parts.{Parts}
 use Rattle.format.specs.Format.{spelt, isList, decisionsOf}
-use Rattle.base.specs.Lists.{filled}
+use Rattle.lines.specs.declared.lists.Parts.{Parts}
 use Rattle.lines.specs.Places.{Held, Stated}
 use Rattle.lines.proofs.OneMore.{list-not, list-long, list-large, list-more}
-use Rattle.base.specs.Laws.Lists.{filled-snoc}
 
 -- parts that are numbers are held as decisions
 pub held-numbers : {n : ℕ} {ps : List (List ℕ)} {p : Parts} → Stated n ps p → p .numbers ≡ true → Held n (map (spelt 0) ps) p

@@ -12,11 +12,11 @@ use lib.ListN.{length, getD, drop}
 use lib.Dec.{T, leb}
 use Rattle.base.specs.Every.{every}
 use Rattle.base.specs.Laws.Tests.{is-true, is-false}
+use Rattle.format.specs.Format.{isDigit, isNumber, spelt}
+use Rattle.format.specs.Laws.Numbers.{IsNumber, number-parts, parts-number, digit-range}
 use Rattle.lines.specs.declared.text.Spelt.{Spelt}
 use Rattle.lines.specs.declared.text.Spelt.the-variants.{Nothing, Number}
-use Rattle.format.specs.Format.{isDigit, isNumber, spelt}
 use Rattle.lines.specs.Places.{numberOf}
-use Rattle.format.specs.Laws.Numbers.{IsNumber, number-parts, parts-number, digit-range}
 use Rattle.lines.proofs.Bytes.{from}
 
 -- the bytes from a place on: what they spell, and whether they are digits

@@ -5,12 +5,12 @@ use mathlib.Core.Bool.{Bool, true, false}
 use mathlib.Core.List.{List, [], _∷_, _++_}
 use native.Mathlib.Numerals.{add-one}
 use lib.ListN.{length-append, drop, set}
+use Rattle.base.specs.Lists.{filled}
+use Rattle.base.specs.Laws.Lists.{filled-snoc}
+use Rattle.format.specs.Parser.{Outcome, Parser, refused, found, onward, _>>=_, pure, ask, times}
 use Rattle.lines.specs.declared.Place.{Place}
 use Rattle.lines.specs.declared.Place.the-variants.{Refused, At}
-use Rattle.format.specs.Parser.{Outcome, Parser, refused, found, onward, _>>=_, pure, ask, times}
-use Rattle.base.specs.Lists.{filled}
 use Rattle.lines.specs.Places.{onFrom, Parsed, ParsedTimes}
-use Rattle.base.specs.Laws.Lists.{filled-snoc}
 
 module _ {A : Type 0} {s : List ℕ} where
   -- parsers that make the same of each text make the same from a place on

@@ -6,15 +6,15 @@ use mathlib.Core.List.{List, [], _∷_, map}
 use lib.ListN.{length, take, drop}
 use lib.Dec.{T, eqb}
 use Rattle.base.specs.Every.{every}
+use Rattle.base.specs.Lists.{filled}
+use Rattle.format.specs.Parser.{Outcome, refused, Parser, pure, times}
+use Rattle.format.specs.Format.{isNumber, spelt, isList}
 use Rattle.lines.specs.declared.Place.{Place}
 use Rattle.lines.specs.declared.Place.the-variants.{Refused, At}
 use Rattle.lines.specs.declared.text.Content.{Content}
 use Rattle.lines.specs.declared.text.Spelt.{Spelt}
 use Rattle.lines.specs.declared.text.Spelt.the-variants.{Nothing, Number}
 use Rattle.lines.specs.declared.lists.Parts.{Parts}
-use Rattle.format.specs.Parser.{Outcome, refused, Parser, pure, times}
-use Rattle.format.specs.Format.{isNumber, spelt, isList}
-use Rattle.base.specs.Lists.{filled}
 
 -- what a parser makes of the bytes from a place on; a refusal stays
 unfoldable pub onFrom : {A : Type 0} → List ℕ → Place → Parser A → Outcome A

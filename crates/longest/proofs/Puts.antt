@@ -6,12 +6,12 @@ use native.Mathlib.Nat.{le-of-eq}
 use native.Mathlib.Omega.{arith}
 use lib.ListN.{length, take}
 use Rattle.policy.specs.declared.Policy.{Policy}
-use Rattle.format.specs.Bounds.{longestFile}
 use Rattle.policy.specs.declared.Queries.{Queries}
+use Rattle.format.specs.Bounds.{longestFile}
+use Rattle.threshold.specs.AtLeast.{atLeast, stated}
 use Rattle.writer.specs.declared.Written.the-variants.{Refused, Length}
 use Rattle.writer.specs.Writing.{Writes}
 use Rattle.writer.specs.Laws.Room.{has-room}
-use Rattle.threshold.specs.AtLeast.{atLeast, stated}
 use Rattle.longest.specs.Printed.{theFile}
 use Rattle.longest.specs.Laws.Written.{never-refused}
 

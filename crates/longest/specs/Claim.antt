@@ -4,9 +4,8 @@ use mathlib.Core.Logic.{_↔_}
 use mathlib.Core.Path.{_≡_}
 use lib.Count.{ones}
 use lib.ListN.{length}
-use Rattle.mask.specs.Mask.{has}
-use Rattle.mask.specs.Mask.{sized}
 use Rattle.base.specs.Counted.{counted}
+use Rattle.mask.specs.Mask.{has, sized}
 use Rattle.policy.specs.declared.Policy.{Policy}
 use Rattle.policy.specs.declared.Query.{Query}
 use Rattle.policy.specs.Questions.{Accepted}

@@ -9,18 +9,18 @@ use Rattle.base.specs.Laws.Tests.{passes, and-make}
 use Rattle.policy.specs.Questions.{questions, inRange, levelsFit, weightsFit}
 use Rattle.policy.specs.Laws.{answers, firstNo-yes}
 use Rattle.engine.specs.Calls.{checkOf}
-use Rattle.reader.specs.declared.Reading.{Reading}
-use Rattle.lines.specs.declared.Place.{Place}
-use Rattle.lines.specs.declared.Place.the-variants.{Refused, At}
 use Rattle.format.specs.Bounds.{mostBytes}
 use Rattle.format.specs.Parser.{Parser, _>>_, pure, ask, end}
+use Rattle.lines.specs.declared.Place.{Place}
+use Rattle.lines.specs.declared.Place.the-variants.{Refused, At}
+use Rattle.lines.specs.Places.{onFrom, Parsed}
+use Rattle.lines.proofs.Bytes.{from}
+use Rattle.lines.proofs.Steps.{ends, stays, found-at, refused-at, next}
+use Rattle.reader.specs.declared.Reading.{Reading}
 use Rattle.reader.specs.File.{refusedReading, lines, draft, handed, draftOf, readOf}
 use Rattle.reader.specs.Claim.{DraftStates}
 use Rattle.reader.specs.Laws.Files.{number, read-refused, read-passed, read-denied}
 use Rattle.reader.specs.Laws.States.{draft-states}
-use Rattle.lines.specs.Places.{onFrom, Parsed}
-use Rattle.lines.proofs.Bytes.{from}
-use Rattle.lines.proofs.Steps.{ends, stays, found-at, refused-at, next}
 
 -- question 1, then the draft
 abbrev pub input : List ℕ → Parser Reading

@@ -7,12 +7,12 @@ use lib.ListN.{length, take}
 use Rattle.policy.specs.Laws.{answers}
 use Rattle.engine.specs.Laws.Refusals.{answered}
 use Rattle.format.specs.Bounds.{longestFile}
-use Rattle.reader.specs.declared.Reading.{Reading}
-use Rattle.reader.specs.File.{refusedReading, draftOf, readOf}
-use Rattle.reader.specs.Laws.Files.{read-refused, read-passed, read-denied}
 use Rattle.text.specs.Put.{Puts, refusedText}
 use Rattle.text.specs.Laws.Putting.{whole}
 use Rattle.text.specs.Laws.Entries.{refused-length}
+use Rattle.reader.specs.declared.Reading.{Reading}
+use Rattle.reader.specs.File.{refusedReading, draftOf, readOf}
+use Rattle.reader.specs.Laws.Files.{read-refused, read-passed, read-denied}
 use Rattle.writer.specs.declared.Written.the-variants.{Refused, Length}
 use Rattle.writer.specs.Writing.{fileText, Writes}
 use Rattle.writer.specs.Laws.Room.{answered-before, has-room}

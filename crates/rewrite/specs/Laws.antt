@@ -3,10 +3,10 @@ use Prim.Native.Nat.{ℕ}
 use mathlib.Core.List.{List}
 use mathlib.Core.Path.{_≡_, sym, _∙_}
 use Rattle.engine.specs.Laws.Refusals.{answered, refused}
+use Rattle.text.specs.Put.{refusedText}
 use Rattle.reader.specs.File.{readOf}
 use Rattle.reader.specs.Claim.{AcceptedFile}
 use Rattle.reader.specs.Laws.States.{states}
-use Rattle.text.specs.Put.{refusedText}
 use Rattle.rewrite.specs.Printed.{rewriteText}
 
 pub rewritten : (s : List ℕ) → AcceptedFile s → rewriteText s ≡ s

@@ -2,8 +2,8 @@
 use Prim.Native.Nat.{ℕ}
 use mathlib.Core.List.{List}
 use Rattle.engine.specs.Calls.{refusedOr}
-use Rattle.reader.specs.File.{readOf}
 use Rattle.text.specs.Put.{refusedText}
+use Rattle.reader.specs.File.{readOf}
 use Rattle.writer.specs.Writing.{fileText}
 
 unfoldable pub rewriteText : List ℕ → List ℕ

@@ -9,6 +9,7 @@ use native.Mathlib.Numerals.{add-one}
 use native.Mathlib.Omega.{arith}
 use lib.ListN.{length, getD}
 use Rattle.base.specs.Laws.Tests.{last-or-below}
+use Rattle.base.specs.Laws.Totals.{total}
 use Rattle.policy.specs.declared.Policy.{Policy}
 use Rattle.policy.specs.declared.Query.{Query}
 use Rattle.policy.specs.Questions.{Accepted}
@@ -21,7 +22,7 @@ use Rattle.settle.specs.Right.{AreWords, Right}
 use Rattle.settle.specs.Laws.Right.{right-next}
 use Rattle.settle.specs.Laws.Grown.{grown-none}
 use Rattle.settle.specs.Laws.Again.{still-quiet, now-quiet}
-use Rattle.settle.specs.Laws.Room.{total, next, next-words, total-kept, total-more}
+use Rattle.settle.specs.Laws.Room.{next, next-words, total-kept, total-more}
 use Rattle.settle.specs.Laws.Settled.{Part, Quiet}
 
 -- work at the places of a level: whatever the sets are, words that were right before are right after

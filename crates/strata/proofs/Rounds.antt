@@ -8,13 +8,14 @@ use native.Mathlib.Omega.{arith}
 use lib.ListN.{length, take, getD, replicate}
 use lib.Seq.{take-suc}
 use Rattle.base.specs.Laws.Tests.{is-true, is-false, passes, getD-filled}
+use Rattle.base.specs.Laws.Totals.{total}
 use Rattle.policy.specs.declared.Policy.{Policy}
 use Rattle.policy.specs.Record.{ruleOf, headOf, withLevels}
 use Rattle.policy.specs.Questions.{othersInRange, listsRise}
 use Rattle.policy.specs.Laws.{InRange}
 use Rattle.strata.specs.Levels.{above, asked, small, lowest, refusedLevels, foundLevels}
-use Rattle.strata.specs.Laws.Raised.{above-more, total, total-small, EachSmall, Reached, Since, raise, reached-none}
-use Rattle.strata.specs.Laws.Raised.{asked-below, reached-raise, raise-small, since-raised, since-kept}
+use Rattle.strata.specs.Laws.Raised.{above-more, total-small, EachSmall, Reached, Since, raise, reached-none, asked-below}
+use Rattle.strata.specs.Laws.Raised.{reached-raise, raise-small, since-raised, since-kept}
 use Rattle.strata.specs.Laws.Levels.{small-each, each-small, met-fits, reached-lowest, lowest-fits, lowest-only, others-range}
 use Rattle.strata.specs.Laws.Levels.{found-nine, found-lowest}
 

@@ -4,11 +4,10 @@ use mathlib.Core.Path.{_≡_, refl}
 use lib.ListN.{replicate}
 use Rattle.base.specs.Every.{every}
 use Rattle.policy.specs.Questions.{firstNo, othersInRange, countsInRange, levelInRange, actionInRange, ruleInRange, listInRange}
-use Rattle.policy.specs.Questions.{listsRise, ruleRises, rises, levelsFit, ruleLevelsFit, levelsBelow}
+use Rattle.policy.specs.Questions.{listsRise, ruleRises, rises, levelsFit, ruleLevelsFit, levelsBelow, refusedOr}
 use Rattle.policy.specs.declared.Policy.{Policy}
 use Rattle.policy.specs.Record.{noDecisions}
 use Rattle.policy.specs.Cases.{sample}
-use Rattle.policy.specs.Questions.{refusedOr}
 use Rattle.strata.specs.Levels.{above, asked, raised, rounds, lowest, levelQuestions, refusedLevels, foundLevels}
 
 pub found : foundLevels sample ≡ record { refusal = 0; level = 1 ∷ replicate 127 0 }

@@ -10,9 +10,8 @@ use Rattle.base.specs.Every.{every}
 use Rattle.policy.specs.declared.Policy.{Policy}
 use Rattle.policy.specs.declared.Rule.{Rule}
 use Rattle.policy.specs.Record.{listed, ruleOf, headOf, withLevels}
-use Rattle.policy.specs.Questions.{Question, firstNo, levelInRange, othersInRange, listsRise, levelsFit, weightsFit}
+use Rattle.policy.specs.Questions.{Question, firstNo, levelInRange, othersInRange, listsRise, levelsFit, weightsFit, refusedOr, checkOf}
 use Rattle.strata.specs.declared.Levelling.{Levelling}
-use Rattle.policy.specs.Questions.{refusedOr, checkOf}
 
 -- the lowest level, from `own` up, that lies at least `step` above that of each decision listed
 unfoldable pub above : List ℕ → ℕ → ℕ → List ℕ → ℕ

@@ -6,10 +6,10 @@ use native.Mathlib.Omega.{arith}
 use lib.Dec.{ltb, ltb→lt, lt→ltb}
 use lib.ListN.{length, set, replicate, length-append}
 use Rattle.base.specs.Laws.Tests.{is-true, is-false}
-use Rattle.policy.specs.declared.Rule.{Rule}
 use Rattle.base.specs.Lists.{filled}
-use Rattle.format.specs.Entries.{zeroRule}
 use Rattle.base.specs.Laws.Lists.{filled-snoc}
+use Rattle.policy.specs.declared.Rule.{Rule}
+use Rattle.format.specs.Entries.{zeroRule}
 use Rattle.threshold.specs.AtLeast.{wide, without, having, firstFor, rulesFor, row, rows}
 use Rattle.threshold.proofs.Counts.{first-few, row-few, rows-few}
 

@@ -10,10 +10,10 @@ use Rattle.policy.specs.declared.Query.{Query}
 use Rattle.policy.specs.declared.Rule.{Rule}
 use Rattle.policy.specs.declared.Action.{Action}
 use Rattle.policy.specs.declared.Kind.the-variants.{Provision}
-use Rattle.reader.specs.declared.Reading.{Reading}
 use Rattle.format.specs.Format.{decisionsOf}
-use Rattle.reader.specs.File.{readingOf}
 use Rattle.format.specs.Entries.{recordOf}
+use Rattle.reader.specs.declared.Reading.{Reading}
+use Rattle.reader.specs.File.{readingOf}
 
 -- there is a decision "at least j of the first i"
 pub record There (i j : ℕ) : Type 0 where

@@ -3,8 +3,8 @@ use Prim.Native.Nat.{ℕ, _^_}
 use mathlib.Core.Bool.{Bool, _&&_}
 use mathlib.Core.List.{List}
 use lib.Dec.{ltb}
-use Rattle.mask.specs.Packed.{packed}
 use Rattle.base.specs.Lists.{table}
+use Rattle.mask.specs.Packed.{packed}
 use Rattle.policy.specs.declared.Policy.{Policy}
 use Rattle.policy.specs.declared.Query.{Query}
 use Rattle.model.specs.Clears.{clears}

@@ -9,12 +9,11 @@ use Rattle.policy.specs.declared.Policy.{Policy}
 use Rattle.policy.specs.Questions.{firstNo}
 use Rattle.policy.specs.Laws.{answers, in-range}
 use Rattle.policy.proofs.Policy as policy
-use Rattle.policy.proofs.Owned.{policy-owned}
-use Rattle.engine.specs.Meaning.{AllYes}
-use Rattle.engine.specs.Laws.Refusals.{refused}
+use Rattle.policy.proofs.Owned.{policy-owned, queries-owned}
 use Rattle.policy.specs.declared.Queries.{Queries}
 use Rattle.policy.proofs.Queries as queries
-use Rattle.policy.proofs.Owned.{queries-owned}
+use Rattle.engine.specs.Meaning.{AllYes}
+use Rattle.engine.specs.Laws.Refusals.{refused}
 use Rattle.writer.specs.declared.Written.{Written}
 use Rattle.writer.specs.declared.Written.the-variants.{Refused, Length}
 use Rattle.writer.specs.Writing.{queriesInRange, recordQuestions, fileText, writeQuestions, writeOf, writeAfter, Writes}

@@ -5,14 +5,14 @@ use mathlib.Core.Path.{_≡_, refl}
 use lib.ListN.{replicate}
 use Rattle.base.specs.Every.{every, everyBelow}
 use Rattle.policy.specs.Cases.{sample, ask}
-use Rattle.policy.specs.Questions.{firstNo, questions, inRange, othersInRange, countsInRange, levelInRange, actionInRange}
-use Rattle.policy.specs.Questions.{ruleInRange, listInRange, listsRise, ruleRises, rises, levelsFit, ruleLevelsFit, levelsBelow}
-use Rattle.policy.specs.Questions.{weightsFit, outweighs, heavier, queryInRange}
-use Rattle.engine.specs.Calls.{refusedOr}
+use Rattle.policy.specs.Questions.{firstNo, questions, inRange, othersInRange, countsInRange, levelInRange, actionInRange, ruleInRange}
+use Rattle.policy.specs.Questions.{listInRange, listsRise, ruleRises, rises, levelsFit, ruleLevelsFit, levelsBelow, weightsFit, outweighs}
+use Rattle.policy.specs.Questions.{heavier, queryInRange}
 use Rattle.policy.specs.declared.Queries.{Queries}
-use Rattle.reader.specs.Cases.{text}
+use Rattle.engine.specs.Calls.{refusedOr}
 use Rattle.format.specs.Text.{decimal, decimalBy}
 use Rattle.format.specs.Written.{lineOf, joined, commas, letterOf, each, levelText, actionText, ruleText, queryText, entriesText, fileOf}
+use Rattle.reader.specs.Cases.{text}
 use Rattle.writer.specs.declared.Written.the-variants.{Refused, Length}
 use Rattle.writer.specs.Writing.{queriesInRange, writeQuestions, writeOf, writeAfter}
 

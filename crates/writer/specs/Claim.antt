@@ -5,9 +5,9 @@ use mathlib.Core.Path.{_≡_}
 use lib.ListN.{length, take, drop}
 use Rattle.policy.specs.declared.Policy.{Policy}
 use Rattle.policy.specs.Record.{Agree, Sized}
+use Rattle.policy.specs.declared.Queries.{Queries}
 use Rattle.engine.specs.Meaning.{AllYes}
 use Rattle.format.specs.Bounds.{longestFile}
-use Rattle.policy.specs.declared.Queries.{Queries}
 use Rattle.reader.specs.File.{readOf}
 use Rattle.reader.specs.Claim.{AcceptedFile}
 use Rattle.writer.specs.declared.Written.the-variants.{Length}

@@ -8,11 +8,11 @@ use lib.ListN.{length, take, drop}
 use Rattle.base.specs.Every.{every}
 use Rattle.policy.specs.declared.Policy.{Policy}
 use Rattle.policy.specs.Questions.{Question, firstNo, questions, queryInRange}
+use Rattle.policy.specs.declared.Queries.{Queries}
 use Rattle.engine.specs.Calls.{refusedOr}
 use Rattle.engine.specs.Meaning.{Refuses, AllYes}
-use Rattle.policy.specs.declared.Queries.{Queries}
-use Rattle.reader.specs.File.{readOf}
 use Rattle.format.specs.Written.{fileOf}
+use Rattle.reader.specs.File.{readOf}
 use Rattle.reader.specs.Cleared.{clearedReading}
 use Rattle.writer.specs.declared.Written.{Written}
 use Rattle.writer.specs.declared.Written.the-variants.{Refused, Length}

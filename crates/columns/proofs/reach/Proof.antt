@@ -4,10 +4,10 @@ use mathlib.Core.Path.{_∙_, ap}
 use native.Mathlib.Omega.{arith}
 use borrow.Author.Needs.{needs}
 use lib.ListN.{length-replicate}
-use Rattle.mask.proofs.Bits.{worth}
-use Rattle.model.specs.World.{worldIn}
 use Rattle.base.specs.Laws.Tables.{Tabled}
 use Rattle.base.proofs.Tabling.{tabled-none, tabled-more, tabled-all}
+use Rattle.mask.proofs.Bits.{worth}
+use Rattle.model.specs.World.{worldIn}
 use Rattle.columns.proofs.reach.Statement.{statement}
 use Rattle.columns.proofs.reach.Tie as tie
 

@@ -3,9 +3,9 @@ use Prim.Native.Nat.{ℕ, _-_}
 use native.Mathlib.Omega.{arith}
 use borrow.Author.Needs.{needs}
 use lib.ListN.{length-replicate}
-use Rattle.columns.specs.Sets.{gathered}
 use Rattle.base.specs.Laws.Tables.{Tabled}
 use Rattle.base.proofs.Tabling.{tabled-none, tabled-more, tabled-all}
+use Rattle.columns.specs.Sets.{gathered}
 use Rattle.columns.proofs.worlds.Statement.{statement}
 use Rattle.columns.proofs.worlds.Tie as tie
 

@@ -8,10 +8,10 @@ use lib.Bits.{block-half, block-odd}
 use lib.Dec.{T, eqb, eqb→eq}
 use lib.ListN.{getD}
 use lib.Pow.{shr-shr, high}
-use Rattle.mask.specs.Mask.{has}
 use Rattle.base.specs.Every.{everyBelow}
-use Rattle.mask.specs.Laws.{has-low, has-high}
 use Rattle.base.specs.Laws.Tests.{everyBelow-at}
+use Rattle.mask.specs.Mask.{has}
+use Rattle.mask.specs.Laws.{has-low, has-high}
 use Rattle.mask.specs.Laws.Packed.{packed-same}
 use Rattle.mask.specs.Packed.{packed}
 use Rattle.columns.specs.Sets.{allSets, columnOf}

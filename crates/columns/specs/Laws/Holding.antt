@@ -6,10 +6,10 @@ use mathlib.Core.Path.{_≡_, sym, _∙_, subst}
 use native.Mathlib.Omega.{arith}
 use lib.Bits.{bitAnd, and-lt}
 use lib.Dec.{T, T-not}
-use Rattle.mask.specs.Mask.{has, contains}
 use Rattle.base.specs.Every.{everyBelow}
-use Rattle.mask.specs.Laws.{has-and, has→<, contains-iff}
 use Rattle.base.specs.Laws.Tests.{same, passes, either, and-make, and-right, or-left, or-right, or-cases, everyBelow-at, everyBelow-make}
+use Rattle.mask.specs.Mask.{has, contains}
+use Rattle.mask.specs.Laws.{has-and, has→<, contains-iff}
 use Rattle.mask.specs.Laws.Packed.{packed-only}
 use Rattle.columns.specs.Sets.{allSets, setAt, columnOf, holdingOf, picked}
 use Rattle.columns.specs.Laws.Offered.{column-bit, column-lt}

@@ -10,14 +10,14 @@ use lib.Bits.{bitAnd}
 use lib.Dec.{T, T-not, eqb}
 use lib.ListN.{getD}
 use lib.Pow.{shr-shr}
-use Rattle.mask.specs.Mask.{has}
 use Rattle.base.specs.Every.{everyBelow}
 use Rattle.base.specs.Lists.{table}
-use Rattle.mask.specs.Laws.{has→<, has-and, contains-iff, ⊆→<}
-use Rattle.mask.specs.Laws.Packed.{packed-bit}
 use Rattle.base.specs.Laws.Tables.{table-at}
 use Rattle.base.specs.Laws.Tests.{same, is-false, either, and-make, and-left, and-right, and-same, or-left, or-right, or-cases}
 use Rattle.base.specs.Laws.Tests.{everyBelow-at, everyBelow-make, everyBelow-same}
+use Rattle.mask.specs.Mask.{has}
+use Rattle.mask.specs.Laws.{has→<, has-and, contains-iff, ⊆→<}
+use Rattle.mask.specs.Laws.Packed.{packed-bit}
 use Rattle.policy.specs.declared.Policy.{Policy}
 use Rattle.policy.specs.declared.Query.{Query}
 use Rattle.policy.specs.declared.Rule.{Rule}

@@ -6,10 +6,11 @@ use mathlib.Core.Path.{_≡_, sym, _∙_, subst}
 use native.Mathlib.Omega.{arith}
 use lib.Bits.{bitAnd, xor-lt, and-lt}
 use lib.Dec.{T, T-not, not-T, ltb, leb, ltb→lt, lt→ltb, leb→le, nleb→lt}
-use Rattle.mask.specs.Mask.{has, disjoint}
 use Rattle.base.specs.Every.{everyBelow}
+use Rattle.base.specs.Laws.Tests.{same, either, and-make, and-left, and-right, or-left, or-right, or-cases, everyBelow-at}
+use Rattle.base.specs.Laws.Tests.{everyBelow-make}
+use Rattle.mask.specs.Mask.{has, disjoint}
 use Rattle.mask.specs.Laws.{has→<, ⊆→<, disjoint-iff}
-use Rattle.base.specs.Laws.Tests.{same, either, and-make, and-left, and-right, or-left, or-right, or-cases, everyBelow-at, everyBelow-make}
 use Rattle.mask.specs.Packed.{packed}
 use Rattle.mask.specs.Laws.Packed.{minus, has-minus, packed-lt, packed-bit, packed-only}
 use Rattle.columns.specs.Sets.{allSets, setAt, columnOf, isOffered, isShut, offeredOf, picked}

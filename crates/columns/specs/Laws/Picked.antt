@@ -3,8 +3,8 @@ use Prim.Native.Nat.{ℕ, zero, suc, _^_, _<_}
 use mathlib.Core.Bool.{Bool, true, false, _&&_, _||_, not, cond, and-true, or-false, and-assoc, or-assoc}
 use mathlib.Core.Path.{_≡_, sym, _∙_, ap}
 use lib.Bits.{bitOr}
-use Rattle.mask.specs.Mask.{has}
 use Rattle.base.specs.Every.{everyBelow, someBelow}
+use Rattle.mask.specs.Mask.{has}
 use Rattle.mask.specs.Laws.{has-or}
 use Rattle.columns.specs.Sets.{picked}
 

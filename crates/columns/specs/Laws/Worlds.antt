@@ -7,14 +7,15 @@ use mathlib.Core.Path.{_≡_, sym, _∙_, ap, subst}
 use lib.Bits.{bitOr, or-lt}
 use lib.Dec.{T, lit<}
 use lib.ListN.{getD}
-use Rattle.mask.specs.Mask.{has}
 use Rattle.base.specs.Every.{someBelow}
-use Rattle.mask.specs.Packed.{packed}
 use Rattle.base.specs.Lists.{table}
+use Rattle.base.specs.Laws.Tables.{table-at}
+use Rattle.base.specs.Laws.Tests.{same, is-false, and-make, and-left, and-right, or-left, or-right, or-cases, someBelow-at}
+use Rattle.base.specs.Laws.Tests.{someBelow-make}
+use Rattle.mask.specs.Mask.{has}
+use Rattle.mask.specs.Packed.{packed}
 use Rattle.mask.specs.Laws.{has→<, has-none}
 use Rattle.mask.specs.Laws.Packed.{packed-bit, packed-only}
-use Rattle.base.specs.Laws.Tables.{table-at}
-use Rattle.base.specs.Laws.Tests.{same, is-false, and-make, and-left, and-right, or-left, or-right, or-cases, someBelow-at, someBelow-make}
 use Rattle.policy.specs.declared.Policy.{Policy}
 use Rattle.policy.specs.declared.Query.{Query}
 use Rattle.policy.specs.Questions.{Accepted}

@@ -7,8 +7,8 @@ use native.Mathlib.Omega.{arith}
 use borrow.Author.Needs.{needs}
 use lib.Bits.{bitOr}
 use lib.ListN.{getD}
-use Rattle.mask.specs.Mask.{has}
 use Rattle.base.specs.Laws.Tests.{passes}
+use Rattle.mask.specs.Mask.{has}
 use Rattle.mask.specs.Laws.{has→≤}
 use Rattle.mask.proofs.Bits.{worth}
 use Rattle.columns.proofs.Picking.{Picking, picking-none, picking-in, picking-out, picking-all}

@@ -7,10 +7,10 @@ use native.Mathlib.Decide.{ℕ-discrete}
 use native.Mathlib.Nat.{le-refl}
 use native.Mathlib.Omega.{arith}
 use lib.Dec.{T, eqb, eqb→eq, eqb-refl, T-not}
-use Rattle.mask.specs.Mask.{has, _⊆_}
 use Rattle.base.specs.Every.{someBelow}
-use Rattle.mask.specs.Laws.{has-or, has-none, has→<, ⊆-antisym, ⊆→<, has-without, without-⊆, ⊆-without}
 use Rattle.base.specs.Laws.Tests.{is-true, is-false, either, and-make, and-left, and-right, or-left, or-right, or-cases}
+use Rattle.mask.specs.Mask.{has, _⊆_}
+use Rattle.mask.specs.Laws.{has-or, has-none, has→<, ⊆-antisym, ⊆→<, has-without, without-⊆, ⊆-without}
 use Rattle.covers.specs.Covers.{moved, closedOf, lessOf}
 use Rattle.covers.specs.Laws.Moved.{moved-bit}
 

@@ -10,11 +10,11 @@ use lib.Bits.{bitOr}
 use lib.Dec.{T}
 use lib.ListN.{length, getD, set, length-set}
 use lib.Seq.{getD-set-same, getD-set-other}
-use Rattle.mask.specs.Mask.{has, _⊆_}
 use Rattle.base.specs.Every.{someBelow}
-use Rattle.mask.specs.Laws.{has-or, has-none, has→<, without-⊆, without-<, proper-⊆-without}
 use Rattle.base.specs.Laws.Tests.{same, is-false, either, and-make, and-left, and-right, and-same, or-left, or-right, or-cases}
 use Rattle.base.specs.Laws.Tests.{someBelow-at, someBelow-make, someBelow-same}
+use Rattle.mask.specs.Mask.{has, _⊆_}
+use Rattle.mask.specs.Laws.{has-or, has-none, has→<, without-⊆, without-<, proper-⊆-without}
 use Rattle.mask.specs.Laws.Minimal.{covered, covered-at, covered-make}
 use Rattle.columns.specs.Laws.Picked.{picked-joins}
 use Rattle.covers.specs.Covers.{Marks, Table, Members, markedIn, closedOf, lowOf, coveredOf}

@@ -8,9 +8,9 @@ use lib.Bits.{shifted-half, shifted-even}
 use lib.Dec.{eqb}
 use lib.ListN.{getD}
 use lib.Pow.{split}
+use Rattle.base.specs.Laws.Tests.{is-false}
 use Rattle.mask.specs.Mask.{has}
 use Rattle.mask.specs.Laws.{digit, has-low, has-high, has→≤}
-use Rattle.base.specs.Laws.Tests.{is-false}
 use Rattle.mask.specs.Laws.Packed.{minus, has-minus, packed-bit}
 use Rattle.columns.specs.Sets.{columnOf}
 use Rattle.columns.specs.Laws.Columns.{block-low, lows, low-column, low-action}

@@ -2,20 +2,18 @@
 use Prim.Native.Nat.{ℕ, _+_, _-_, _*_, _^_, _<_}
 use mathlib.Core.Bool.{Bool, true, false, _&&_, _||_, not}
 use mathlib.Core.List.{List}
-use mathlib.Core.Logic.{⊎-elim}
 use mathlib.Core.Path.{_≡_, refl, sym, _∙_, ap, subst}
-use native.Mathlib.Decide.{decLt}
 use native.Mathlib.Nat.{le-refl}
 use native.Mathlib.Omega.{arith}
 use lib.Bits.{bitOr}
 use lib.Dec.{T}
 use lib.ListN.{getD}
-use Rattle.mask.specs.Mask.{has}
 use Rattle.base.specs.Every.{someBelow}
+use Rattle.base.specs.Laws.Tests.{same, and-right, and-same, someBelow-same, some-split, or-swap}
+use Rattle.mask.specs.Mask.{has}
 use Rattle.mask.specs.Family.{minimal}
 use Rattle.mask.specs.Laws.{has-or}
 use Rattle.mask.specs.Laws.Packed.{has-minus}
-use Rattle.base.specs.Laws.Tests.{same, and-right, and-same, or-left, or-right, or-cases, someBelow-at, someBelow-make, someBelow-same}
 use Rattle.mask.specs.Laws.Minimal.{covered, coveredLess, minimal-step}
 use Rattle.columns.specs.Sets.{setAt}
 use Rattle.columns.specs.Laws.Columns.{low-action, set-small}
@@ -23,33 +21,6 @@ use Rattle.covers.specs.Covers.{Marks, Table, Members, closedOf, lessOf,
 use Rattle.covers.specs.Laws.Closed.{less-bit}
 use Rattle.covers.specs.Laws.Places.{upper, less-upper, less-lower}
 use Rattle.covers.specs.Laws.Marks.{low-is, marks-next}
-
--- of the first m + n numbers one passes just if one of the first m does or one of the n after them
-some-split : (m n : ℕ) (f : ℕ → Bool) → someBelow (m + n) f ≡ (someBelow m f || someBelow n (λ b. f (m + b)))
-some-split m n f = same (someBelow (m + n) f) (someBelow m f || someBelow n (λ b. f (m + b))) there back
-  where
-    there : T (someBelow (m + n) f) → T (someBelow m f || someBelow n (λ b. f (m + b)))
-    there t = let one = someBelow-at f (m + n) t in elim (decLt (one .0) m) [
-      | yes k ↦ or-left (someBelow m f) (someBelow n (λ b. f (m + b))) (someBelow-make f m (one .0) k (one .2))
-      | no k ↦
-          let back : one .0 ≡ m + (one .0 - m) = omega arith in
-          let few : one .0 - m < n = omega (arith, one .1) in
-          or-right (someBelow m f) (someBelow n (λ b. f (m + b)))
-          (someBelow-make (λ b. f (m + b)) n (one .0 - m) few (subst (λ (x : ℕ). T (f x)) back (one .2)))
-    ]
-
-    back : T (someBelow m f || someBelow n (λ b. f (m + b))) → T (someBelow (m + n) f)
-    back t = ⊎-elim {C = T (someBelow (m + n) f)}
-        (λ (u : T (someBelow m f)). let one = someBelow-at f m u in someBelow-make f (m + n) (one .0) (omega (arith, one .1)) (one .2))
-        (λ (u : T (someBelow n (λ b. f (m + b)))). let one = someBelow-at (λ b. f (m + b)) n u in
-        someBelow-make f (m + n) (m + one .0) (omega (arith, one .1)) (one .2))
-        (or-cases (someBelow m f) (someBelow n (λ b. f (m + b))) t)
-
-or-swap : (a b : Bool) → (a || b) ≡ (b || a)
-or-swap true true = refl
-or-swap true false = refl
-or-swap false true = refl
-or-swap false false = refl
 
 module _ (takes : ℕ → Bool) (table : List ℕ) (w : ℕ) (small : w < 1024)
     (right : (v : ℕ) → v < w → Marks (covered takes) v (getD table v 0)) (members : ℕ)

@@ -7,15 +7,15 @@ use mathlib.Core.Path.{_≡_, refl}
 use lib.Dec.{lit<}
 use Rattle.base.specs.Every.{every, everyBelow, someBelow}
 use Rattle.mask.specs.Laws.{disjoint-iff}
-use Rattle.policy.specs.Questions.{firstNo, questions, queryInRange, inRange, othersInRange, countsInRange, levelInRange}
-use Rattle.policy.specs.Questions.{actionInRange, ruleInRange, listInRange, listsRise, ruleRises, rises, levelsFit, ruleLevelsFit}
-use Rattle.policy.specs.Questions.{levelsBelow, weightsFit, outweighs, heavier, Accepted}
+use Rattle.mask.specs.Family.{takenWithin, minimal, lightest, lighter}
+use Rattle.policy.specs.Questions.{firstNo, questions, queryInRange, inRange, othersInRange, countsInRange, levelInRange, actionInRange}
+use Rattle.policy.specs.Questions.{ruleInRange, listInRange, listsRise, ruleRises, rises, levelsFit, ruleLevelsFit, levelsBelow}
+use Rattle.policy.specs.Questions.{weightsFit, outweighs, heavier, Accepted}
 use Rattle.policy.specs.Cases.{chain, ask}
 use Rattle.model.specs.World.{worldOf, worldIn, followed, alsoes, InWorld, start, follow, steps}
 use Rattle.model.specs.Fire.{firedOf, canFire, fires, tried, pass, passes, upTo}
-use Rattle.engine.specs.Sets.{Enough, Slim, Best}
 use Rattle.weight.specs.Cost.{costOf, weighed}
-use Rattle.mask.specs.Family.{takenWithin, minimal, lightest, lighter}
+use Rattle.engine.specs.Sets.{Enough, Slim, Best}
 use Rattle.engine.specs.Calls.{best, clears, enough, firedFor, slim}
 use Rattle.engine.specs.Laws.Decide.{best-found}
 use Rattle.engine.specs.Cases.Decided.{is-enough, is-slim}

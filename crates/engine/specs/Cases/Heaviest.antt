@@ -4,14 +4,14 @@ use mathlib.Core.Path.{_≡_, refl}
 use lib.Dec.{lit<}
 use Rattle.base.specs.Every.{every, everyBelow}
 use Rattle.mask.specs.Laws.{disjoint-iff}
-use Rattle.policy.specs.Questions.{firstNo, questions, queryInRange, inRange, othersInRange, countsInRange, levelInRange}
-use Rattle.policy.specs.Questions.{actionInRange, ruleInRange, listInRange, listsRise, ruleRises, rises, levelsFit, ruleLevelsFit}
-use Rattle.policy.specs.Questions.{levelsBelow, weightsFit, outweighs, heavier, Accepted}
+use Rattle.policy.specs.Questions.{firstNo, questions, queryInRange, inRange, othersInRange, countsInRange, levelInRange, actionInRange}
+use Rattle.policy.specs.Questions.{ruleInRange, listInRange, listsRise, ruleRises, rises, levelsFit, ruleLevelsFit, levelsBelow}
+use Rattle.policy.specs.Questions.{weightsFit, outweighs, heavier, Accepted}
 use Rattle.policy.specs.Cases.{heaviest, ask}
 use Rattle.model.specs.World.{worldOf, worldIn, followed, alsoes}
 use Rattle.model.specs.Fire.{firedOf, canFire, fires, tried, pass, passes, upTo}
-use Rattle.engine.specs.Sets.{Enough}
 use Rattle.weight.specs.Cost.{costOf, weighed}
+use Rattle.engine.specs.Sets.{Enough}
 use Rattle.engine.specs.Calls.{clears, enough, firedFor}
 use Rattle.engine.specs.Cases.Decided.{is-enough}
 

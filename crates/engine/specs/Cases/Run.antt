@@ -5,16 +5,16 @@ use mathlib.Core.Option.{none, some}
 use mathlib.Core.Path.{_≡_, refl}
 use lib.Count.{ones, onesIn}
 use Rattle.base.specs.Every.{every, everyBelow, someBelow}
-use Rattle.policy.specs.Questions.{firstNo, questions, queryInRange, inRange, othersInRange, countsInRange, levelInRange}
-use Rattle.policy.specs.Questions.{actionInRange, ruleInRange, listInRange, listsRise, ruleRises, rises, levelsFit, ruleLevelsFit}
-use Rattle.policy.specs.Questions.{levelsBelow, weightsFit, outweighs, heavier, Accepted}
+use Rattle.mask.specs.Family.{among, takenWithin, minimal, lightest, lighter}
+use Rattle.policy.specs.Questions.{firstNo, questions, queryInRange, inRange, othersInRange, countsInRange, levelInRange, actionInRange}
+use Rattle.policy.specs.Questions.{ruleInRange, listInRange, listsRise, ruleRises, rises, levelsFit, ruleLevelsFit, levelsBelow}
+use Rattle.policy.specs.Questions.{weightsFit, outweighs, heavier, Accepted}
 use Rattle.policy.specs.Cases.{sample, ask}
 use Rattle.model.specs.World.{worldOf, worldIn, followed, alsoes}
 use Rattle.model.specs.Fire.{firedOf, canFire, fires, tried, pass, passes, upTo}
+use Rattle.weight.specs.Cost.{costOf, weighed}
 use Rattle.keep.specs.Keep.{foundOr0, spoilt, keepsOff, keepOf}
 use Rattle.engine.specs.declared.Answer.the-variants.{None, Chosen}
-use Rattle.weight.specs.Cost.{costOf, weighed}
-use Rattle.mask.specs.Family.{among, takenWithin, minimal, lightest, lighter}
 use Rattle.engine.specs.Calls.{chooseOf, answer, refusedOr, best, clears, enough, firedFor, slimSets, slim, keepFor}
 
 -- what the printed run says

@@ -3,11 +3,11 @@ use mathlib.Core.List.{_∷_}
 use mathlib.Core.Path.{_≡_, refl}
 use lib.ListN.{replicate}
 use Rattle.base.specs.Every.{every, everyBelow, someBelow}
-use Rattle.mask.specs.Packed.{packed}
 use Rattle.base.specs.Lists.{table}
-use Rattle.policy.specs.Questions.{firstNo, questions, queryInRange, inRange, othersInRange, countsInRange, levelInRange}
-use Rattle.policy.specs.Questions.{actionInRange, ruleInRange, listInRange, listsRise, ruleRises, rises, levelsFit, ruleLevelsFit}
-use Rattle.policy.specs.Questions.{levelsBelow, weightsFit, outweighs, heavier}
+use Rattle.mask.specs.Packed.{packed}
+use Rattle.policy.specs.Questions.{firstNo, questions, queryInRange, inRange, othersInRange, countsInRange, levelInRange, actionInRange}
+use Rattle.policy.specs.Questions.{ruleInRange, listInRange, listsRise, ruleRises, rises, levelsFit, ruleLevelsFit, levelsBelow}
+use Rattle.policy.specs.Questions.{weightsFit, outweighs, heavier}
 use Rattle.policy.specs.Cases.{sample, ask}
 use Rattle.model.specs.World.{worldOf, worldIn, followed, alsoes}
 use Rattle.model.specs.Fire.{firedOf, canFire, fires, tried, pass, passes, upTo}

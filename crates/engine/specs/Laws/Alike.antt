@@ -4,17 +4,17 @@ use mathlib.Core.Bool.{Bool, _&&_}
 use mathlib.Core.Option.{Option, none, some}
 use mathlib.Core.Path.{_≡_, refl, _∙_, ap}
 use lib.ListN.{length}
+use Rattle.base.specs.Laws.Tests.{someBelow-same}
 use Rattle.mask.specs.Mask.{contains}
 use Rattle.mask.specs.Family.{among, takenWithin, minimal, lightest}
 use Rattle.mask.specs.Laws.Lightest.{lightest-same}
-use Rattle.base.specs.Laws.Tests.{someBelow-same}
+use Rattle.mask.specs.Laws.Among.{among-same}
 use Rattle.policy.specs.declared.Policy.{Policy}
 use Rattle.policy.specs.declared.Query.{Query}
+use Rattle.weight.specs.Cost.{costOf}
 use Rattle.keep.specs.Keep.{keepOf}
 use Rattle.keep.specs.Laws.Same.{keepOf-same}
-use Rattle.weight.specs.Cost.{costOf}
 use Rattle.engine.specs.Calls.{refusedOr, answer, clears, slim, slimSets, best, keepFor}
-use Rattle.mask.specs.Laws.Among.{among-same}
 
 -- refusals by the same number, or the same answers
 pub refused-same : {A : Type 0} (n m : ℕ) (refuse : ℕ → A) (a b : A) → n ≡ m → (m ≡ 0 → a ≡ b) → refusedOr n refuse a ≡ refusedOr m refuse b

@@ -8,9 +8,9 @@ use Rattle.mask.specs.Laws.{has-none}
 use Rattle.mask.specs.Laws.Before.{before-lower}
 use Rattle.policy.specs.declared.Policy.{Policy}
 use Rattle.policy.specs.declared.Query.{Query}
-use Rattle.engine.specs.Sets.{Enough, Slim, Best}
 use Rattle.weight.specs.Cost.{costOf}
 use Rattle.weight.specs.Laws.Cost.{costs-no-more}
+use Rattle.engine.specs.Sets.{Enough, Slim, Best}
 
 -- the empty set lies in every set
 none-⊆ : (s : ℕ) → 0 ⊆ s

@@ -6,11 +6,13 @@ use mathlib.Core.Path.{_≡_, refl, sym, _∙_}
 use native.Mathlib.Decide.{ℕ-discrete}
 use native.Mathlib.Omega.{arith}
 use lib.ListN.{length, replicate, length-replicate}
-use Rattle.mask.specs.Mask.{sized}
 use Rattle.base.specs.Counted.{counted}
 use Rattle.base.specs.Lists.{filled}
 use Rattle.base.specs.Laws.Lists.{filled-length}
+use Rattle.mask.specs.Mask.{sized}
 use Rattle.mask.specs.Laws.Sperner.{Antichain, sperner, middle-few}
+use Rattle.mask.specs.Laws.Among.{among-counted}
+use Rattle.mask.specs.Laws.Minimal.{minimal-taken, minimal-least}
 use Rattle.policy.specs.declared.Policy.{Policy}
 use Rattle.policy.specs.declared.Query.{Query}
 use Rattle.policy.specs.Questions.{firstNo, queryInRange, queryQuestions, Accepted}
@@ -23,8 +25,6 @@ use Rattle.engine.specs.declared.Firing.{Firing}
 use Rattle.engine.specs.declared.Listing.the-variants.{Refused, Listed}
 use Rattle.engine.specs.Sets.{mostSlim}
 use Rattle.engine.specs.Calls.{clears, slim, slimSets, listQuestions, listOf, firedFor, offerQuestions, refusedOr, fireOf}
-use Rattle.mask.specs.Laws.Among.{among-counted}
-use Rattle.mask.specs.Laws.Minimal.{minimal-taken, minimal-least}
 use Rattle.engine.specs.Laws.Refusals.{answered, refused, list-early, list-yes, offer-accepted}
 
 module _ (p : Policy) (q : Query) where

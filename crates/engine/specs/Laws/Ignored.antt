@@ -16,13 +16,13 @@ use Rattle.policy.specs.Laws.{answers, accepted}
 use Rattle.policy.specs.Laws.Cut.{listed-cut, rule-cut, head-cut, weight-cut, others-cut, rise-cut, fit-with-cut, questions-cut}
 use Rattle.model.specs.Laws.Cut.{world-cut, fired-cut}
 use Rattle.weight.specs.Cost.{weighed, costOf}
-use Rattle.engine.specs.Calls.{answer, offerInRange, offerQuestions, firedFor, enough, clears, slimSets, best, listQuestions}
-use Rattle.engine.specs.Calls.{checkOf, judgeOf, fireOf, chooseOf, listOf, listAfter}
-use Rattle.words.specs.Models.{asking}
-use Rattle.words.specs.Laws.Alike.{model-alike}
-use Rattle.engine.specs.Words.{wordQuestions, wordsOf}
 use Rattle.strata.specs.Levels.{asked, raised, lowest, levelQuestions, foundLevels}
 use Rattle.strata.specs.Laws.Levels.{rounds-same}
+use Rattle.words.specs.Models.{asking}
+use Rattle.words.specs.Laws.Alike.{model-alike}
+use Rattle.engine.specs.Calls.{answer, offerInRange, offerQuestions, firedFor, enough, clears, slimSets, best, listQuestions}
+use Rattle.engine.specs.Calls.{checkOf, judgeOf, fireOf, chooseOf, listOf, listAfter}
+use Rattle.engine.specs.Words.{wordQuestions, wordsOf}
 use Rattle.engine.specs.Laws.Alike.{refused-same, slim-sets-alike, answer-alike}
 use Rattle.engine.specs.Laws.Refusals.{offer-accepted, list-accepted}
 

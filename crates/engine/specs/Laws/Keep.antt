@@ -8,11 +8,11 @@ use native.Mathlib.Decide.{ℕ-discrete}
 use lib.Count.{ones}
 use lib.Dec.{T, T-not, not-T, ltb, ltb→lt, lt→ltb}
 use lib.Pow.{pow-pos}
-use Rattle.mask.specs.Mask.{has, _⊆_, Apart, contains, disjoint}
 use Rattle.base.specs.Every.{someBelow}
+use Rattle.base.specs.Laws.Tests.{either, and-make, and-left, and-right, someBelow-at, someBelow-make}
+use Rattle.mask.specs.Mask.{has, _⊆_, Apart, contains, disjoint}
 use Rattle.mask.specs.Family.{lightest}
 use Rattle.mask.specs.Laws.{contains-iff, disjoint-iff, has-none, has→<, ⊆-antisym}
-use Rattle.base.specs.Laws.Tests.{either, and-make, and-left, and-right, someBelow-at, someBelow-make}
 use Rattle.mask.specs.Laws.Before.{before-once, before-empty}
 use Rattle.mask.specs.Laws.Lightest.{Lightest, Found, lightest-found}
 use Rattle.mask.specs.Laws.Ones.{ones-zero}

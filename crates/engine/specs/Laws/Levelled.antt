@@ -14,15 +14,15 @@ use Rattle.policy.specs.Laws.{Answers, answers, answered-with, accepted, firstN
 use Rattle.model.specs.World.{worldOf}
 use Rattle.model.specs.Derivation.{Derivable}
 use Rattle.model.specs.Laws.Model.{same-model}
-use Rattle.strata.specs.declared.Levelling.{Levelling}
 use Rattle.weight.specs.Cost.{costOf}
-use Rattle.engine.specs.Calls.{offerInRange, offerQuestions, listQuestions, enough, clears, slimSets, judgeOf, chooseOf}
-use Rattle.engine.specs.Calls.{checkOf, listOf, listAfter}
-use Rattle.words.specs.Models.{asking}
-use Rattle.words.specs.Laws.Alike.{model-alike}
-use Rattle.engine.specs.Words.{wordQuestions, wordsOf}
+use Rattle.strata.specs.declared.Levelling.{Levelling}
 use Rattle.strata.specs.Levels.{foundLevels}
 use Rattle.strata.specs.Laws.Levels.{others-range, lowest-small, found-lowest, finds-levels}
+use Rattle.words.specs.Models.{asking}
+use Rattle.words.specs.Laws.Alike.{model-alike}
+use Rattle.engine.specs.Calls.{offerInRange, offerQuestions, listQuestions, enough, clears, slimSets, judgeOf, chooseOf, checkOf}
+use Rattle.engine.specs.Calls.{listOf, listAfter}
+use Rattle.engine.specs.Words.{wordQuestions, wordsOf}
 use Rattle.engine.specs.Laws.Alike.{slim-sets-alike, answer-alike}
 use Rattle.engine.specs.Laws.Decide.{enough-derivable}
 use Rattle.engine.specs.Laws.Words.{asking-accepted}

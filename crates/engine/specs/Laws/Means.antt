@@ -8,12 +8,12 @@ use lib.ListN.{length, drop}
 use Rattle.policy.specs.declared.Policy.{Policy}
 use Rattle.policy.specs.declared.Query.{Query}
 use Rattle.policy.specs.Questions.{firstNo, queryQuestions, Accepted}
+use Rattle.weight.specs.Cost.{costOf}
 use Rattle.engine.specs.declared.Verdict.the-variants.{Refused as judge-refused, Judged}
 use Rattle.engine.specs.declared.Answer.the-variants.{Refused as choose-refused}
 use Rattle.engine.specs.declared.Listing.the-variants.{Refused as list-refused, Listed}
-use Rattle.weight.specs.Cost.{costOf}
-use Rattle.engine.specs.Calls.{refusedOr, offerQuestions, listQuestions, enough, slimSets, best, answer}
-use Rattle.engine.specs.Calls.{judgeOf, chooseOf, listOf, listAfter}
+use Rattle.engine.specs.Calls.{refusedOr, offerQuestions, listQuestions, enough, slimSets, best, answer, judgeOf, chooseOf, listOf}
+use Rattle.engine.specs.Calls.{listAfter}
 use Rattle.engine.specs.Meaning.{Judges, Chooses, ListsSlim}
 use Rattle.engine.specs.Laws.Refusals.{offer-accepted, list-accepted}
 use Rattle.engine.specs.Laws.Decide.{enough-iff, best-found, none-found, lists}

@@ -7,8 +7,8 @@ use mathlib.Core.Path.{_≡_, subst}
 use native.Mathlib.Decide.{ℕ-discrete}
 use lib.Dec.{T, T-not, not-T, eqb, eqb→eq}
 use lib.ListN.{take}
-use Rattle.mask.specs.Mask.{has, _⊆_}
 use Rattle.base.specs.Laws.Tests.{fails, someBelow-make}
+use Rattle.mask.specs.Mask.{has, _⊆_}
 use Rattle.policy.specs.declared.Policy.{Policy}
 use Rattle.policy.specs.declared.Query.{Query}
 use Rattle.policy.specs.Questions.{Accepted}

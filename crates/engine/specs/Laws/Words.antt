@@ -7,16 +7,16 @@ use native.Mathlib.Omega.{arith}
 use borrow.Author.Tests.{lt-ltb, le-ltb, le-leb, lt-leb}
 use lib.Dec.{T, ltb, leb, lt→ltb, ltb→lt, leb→le}
 use lib.ListN.{getD, replicate, length-replicate, List·getD-eq-default}
-use Rattle.mask.specs.Mask.{has, disjoint}
-use Rattle.mask.specs.Laws.{disjoint-iff, has-none}
-use Rattle.mask.specs.Laws.Packed.{packed-bit, packed-same}
 use Rattle.base.specs.Laws.Tables.{table-length}
 use Rattle.base.specs.Laws.Tests.{is-true, is-false, and-make, and-left, and-right, getD-filled}
+use Rattle.mask.specs.Mask.{has, disjoint, isMask}
+use Rattle.mask.specs.Laws.{disjoint-iff, has-none}
+use Rattle.mask.specs.Laws.Packed.{packed-bit, packed-same}
 use Rattle.policy.specs.declared.Policy.{Policy}
 use Rattle.policy.specs.declared.Query.{Query}
 use Rattle.policy.specs.Questions.{firstNo, questions, queryInRange, queryQuestions, isDecision, Accepted}
-use Rattle.mask.specs.Mask.{isMask}
 use Rattle.policy.specs.Laws.{firstNo-zero, accepted, answers, answered-with, accepted-range}
+use Rattle.weight.specs.Cost.{costOf}
 use Rattle.columns.specs.Sets.{setAt}
 use Rattle.columns.specs.Laws.Columns.{none-set}
 use Rattle.words.specs.Models.{asking, bitOf, wordOf, modelOf}
@@ -24,7 +24,6 @@ use Rattle.words.specs.Laws.Worked.{model-at}
 use Rattle.engine.specs.declared.WordModel.{WordModel}
 use Rattle.engine.specs.declared.Verdict.the-variants.{Judged}
 use Rattle.engine.specs.Sets.{Offered}
-use Rattle.weight.specs.Cost.{costOf}
 use Rattle.engine.specs.Calls.{refusedOr, enough, clears}
 use Rattle.engine.specs.Words.{wordQuestions, wordsOf, SaysWords, SixtyFour}
 use Rattle.engine.specs.Laws.{judge-is}

@@ -4,8 +4,8 @@ use mathlib.Core.Path.{refl, ap}
 use native.Mathlib.Omega.{arith}
 use borrow.Author.Needs.{needs}
 use lib.ListN.{replicate}
-use Rattle.policy.specs.Record.{noAction}
 use Rattle.base.specs.Lists.{filled}
+use Rattle.policy.specs.Record.{noAction}
 use Rattle.format.specs.Entries.{action}
 use Rattle.lines.specs.Places.{ParsedTimes}
 use Rattle.lines.proofs.Steps.{next, ends, begins, turns, all-turns}

@@ -3,9 +3,9 @@ use Prim.Native.Nat.{_-_, _≤_}
 use mathlib.Core.Path.{refl}
 use native.Mathlib.Omega.{arith}
 use borrow.Author.Needs.{needs}
+use Rattle.base.specs.Lists.{filled}
 use Rattle.format.specs.Text.{ascii}
 use Rattle.format.specs.Format.{numberLine}
-use Rattle.base.specs.Lists.{filled}
 use Rattle.lines.specs.Places.{ParsedTimes}
 use Rattle.lines.proofs.Steps.{begins, turns, all-turns}
 use Rattle.entries.proofs.read_levels.Statement.{statement}

@@ -1,7 +1,7 @@
 -- `format::list_of_none` meets its contract.
 use mathlib.Core.Path.{refl}
-use Rattle.format.specs.Format.{decisionsOf}
 use Rattle.base.specs.Lists.{filled}
+use Rattle.format.specs.Format.{decisionsOf}
 use Rattle.format.proofs.list_of_none.Statement.{statement}
 use Rattle.format.proofs.list_of_none.Tie as tie
 

@@ -5,9 +5,9 @@ use native.Mathlib.Omega.{arith}
 use mathlib.Core.Path.{_≡_}
 use mathlib.Core.List.{List, [], _∷_}
 use lib.ListN.{length, length-append}
+use Rattle.base.specs.Laws.All.{All, all-head, all-tail}
 use Rattle.format.specs.Text.{decimal, decimalBy}
 use Rattle.format.specs.Written.{lineOf, joined, commas, each}
-use Rattle.base.specs.Laws.All.{All, all-head, all-tail}
 use Rattle.format.specs.Laws.Numbers.{decimalBy-length, one-digit, more-digits}
 
 -- a number below 10 ^ k has at most k digits

@@ -11,9 +11,9 @@ use lib.Dec.{T, T-not, not-T, eqb}
 use mir.Facts.{and-yes, yes-and, or-yes, eqb-yes, eqb-no, yes-eqb, no-eqb, leb-yes, yes-leb}
 use borrow.Author.Tests.{lt-ltb, le-ltb}
 use Rattle.base.specs.Every.{every}
+use Rattle.base.specs.Laws.Tests.{parts, or-left, or-right, between-iff, every-both}
 use Rattle.format.specs.Text.{decimal, decimalBy}
 use Rattle.format.specs.Format.{isDigit, isNumber, spelt}
-use Rattle.base.specs.Laws.Tests.{parts, or-left, or-right, between-iff, every-both}
 
 -- digits after digits go on from what the first spell
 spelt-append : (v : ℕ) (c d : List ℕ) → spelt v (c ++ d) ≡ spelt (spelt v c) d

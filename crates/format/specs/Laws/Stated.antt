@@ -15,8 +15,8 @@ use Rattle.policy.specs.declared.Rule.{Rule}
 use Rattle.policy.specs.declared.Query.{Query}
 use Rattle.policy.specs.declared.Decisions.{Decisions}
 use Rattle.policy.specs.Record.{listed, levelsOf, actionsOf, rulesOf, noRule, Eights, Sized}
-use Rattle.policy.specs.Questions.{rises, levelInRange, actionInRange, listInRange, ruleInRange}
-use Rattle.policy.specs.Questions.{ruleRises, othersInRange, inRange, listsRise, levelsFit, weightsFit, queryInRange}
+use Rattle.policy.specs.Questions.{rises, levelInRange, actionInRange, listInRange, ruleInRange, ruleRises, othersInRange, inRange}
+use Rattle.policy.specs.Questions.{listsRise, levelsFit, weightsFit, queryInRange}
 use Rattle.policy.specs.Laws.{InRange, in-range, list-fits, rule-fits}
 use Rattle.format.specs.Text.{ascii, decimal}
 use Rattle.format.specs.Written.{lineOf, each, levelText, actionText, ruleText, entriesText}

@@ -3,9 +3,9 @@ use Prim.Native.Nat.{_-_, _≤_, _<_}
 use native.Mathlib.Omega.{arith}
 use borrow.Author.Needs.{needs}
 use lib.Pow.{pow-mono, pow-pos}
+use Rattle.base.proofs.Tested.{tested-no, tested-yes}
 use Rattle.mask.specs.Mask.{has, disjoint}
 use Rattle.mask.specs.Laws.Packed.{minus}
-use Rattle.base.proofs.Tested.{tested-no, tested-yes}
 use Rattle.covers.specs.Covers.{markedIn}
 use Rattle.keep.specs.Search.{restOf, unmarked}
 use Rattle.keep.specs.Laws.Rest.{rest-set}

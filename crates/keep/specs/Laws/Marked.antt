@@ -6,13 +6,13 @@ use mathlib.Core.Path.{_≡_, refl, sym, _∙_, ap}
 use native.Mathlib.Omega.{arith}
 use lib.Count.{ones}
 use lib.Dec.{T, ltb, ltb→lt}
-use Rattle.mask.specs.Mask.{contains, disjoint}
 use Rattle.base.specs.Every.{someBelow}
+use Rattle.base.specs.Laws.Tests.{same, and-make, and-left, and-right, someBelow-at, someBelow-make}
+use Rattle.mask.specs.Mask.{contains, disjoint}
 use Rattle.mask.specs.Family.{lightest}
 use Rattle.mask.specs.Laws.{disjoint-iff}
 use Rattle.mask.specs.Laws.Lightest.{lightest-same}
 use Rattle.mask.specs.Laws.Minimal.{covered, covered-at, covered-make}
-use Rattle.base.specs.Laws.Tests.{same, and-make, and-left, and-right, someBelow-at, someBelow-make}
 use Rattle.columns.specs.Sets.{isOffered}
 use Rattle.covers.specs.Covers.{Table, markedIn}
 use Rattle.covers.specs.Laws.Marks.{table-marked}

@@ -6,10 +6,10 @@ use mathlib.Core.Path.{_≡_}
 use lib.Bits.{bitOr}
 use lib.Dec.{T, T-not, not-T}
 use lib.Pow.{ones-lt}
+use Rattle.base.specs.Laws.Tests.{same, and-make, and-left, and-right, or-left, or-right, or-cases}
 use Rattle.mask.specs.Mask.{has, _⊆_, Apart, disjoint}
 use Rattle.mask.specs.Laws.{has-or, has→<, ⊆→<, disjoint-iff, all-has}
 use Rattle.mask.specs.Laws.Packed.{has-minus}
-use Rattle.base.specs.Laws.Tests.{same, and-make, and-left, and-right, or-left, or-right, or-cases}
 use Rattle.keep.specs.Search.{restOf}
 
 module _ (m done k : ℕ) where

@@ -3,9 +3,9 @@ use Prim.Native.Nat.{ℕ, _^_}
 use mathlib.Core.Bool.{Bool, _&&_, not}
 use mathlib.Core.Path.{_≡_, refl, ap}
 use lib.Count.{ones}
+use Rattle.base.specs.Laws.Tests.{someBelow-same}
 use Rattle.mask.specs.Mask.{disjoint}
 use Rattle.mask.specs.Laws.Lightest.{lightest-same}
-use Rattle.base.specs.Laws.Tests.{someBelow-same}
 use Rattle.keep.specs.Keep.{foundOr0, spoilt, keepsOff, keepOf}
 
 module _ (f g : ℕ → Bool) (e : (t : ℕ) → f t ≡ g t) (m s done : ℕ) where

@@ -4,10 +4,10 @@ use mathlib.Core.Bool.{Bool, _&&_, not}
 use mathlib.Core.Path.{_≡_, sym, _∙_, ap, subst}
 use lib.Bits.{bitAnd}
 use lib.Dec.{T, ltb, ltb→lt}
+use Rattle.base.specs.Laws.Tests.{and-make, and-left, and-right}
 use Rattle.mask.specs.Mask.{has, contains, disjoint}
 use Rattle.mask.specs.Laws.{has-and, has-none}
 use Rattle.mask.specs.Laws.Packed.{minus, has-minus, packed-bit}
-use Rattle.base.specs.Laws.Tests.{and-make, and-left, and-right}
 use Rattle.policy.specs.declared.Policy.{Policy}
 use Rattle.policy.specs.declared.Query.{Query}
 use Rattle.policy.specs.Questions.{Accepted}

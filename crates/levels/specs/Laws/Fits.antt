@@ -6,15 +6,15 @@ use native.Mathlib.Decide.{ℕ-discrete}
 use native.Mathlib.Omega.{arith}
 use lib.ListN.{length, take, length-take}
 use Rattle.policy.specs.declared.Policy.{Policy}
-use Rattle.engine.specs.Calls.{refusedOr}
 use Rattle.strata.specs.Levels.{foundLevels}
 use Rattle.strata.specs.Laws.Levels.{finds-levels}
+use Rattle.engine.specs.Calls.{refusedOr}
 use Rattle.engine.specs.Laws.Refusals.{answered, refused}
 use Rattle.format.specs.Written.{levelText, each}
-use Rattle.reader.specs.File.{draftOf}
 use Rattle.format.specs.Laws.Lengths.{ten-digits, line-length, each-length}
 use Rattle.text.specs.Put.{refusedText}
 use Rattle.text.specs.Laws.Entries.{refused-length}
+use Rattle.reader.specs.File.{draftOf}
 use Rattle.levels.specs.Printed.{foundText, levelsText}
 
 level-length : (l : ℕ) → length (levelText l) ≤ 17

@@ -7,25 +7,25 @@ use lib.Dec.{T, eqb, eqb→eq}
 use lib.ListN.{length, take}
 use Rattle.base.specs.Every.{every}
 use Rattle.base.specs.Laws.Tests.{and-make, and-left, and-right, entry-at}
+use Rattle.base.specs.Lists.{filled}
 use Rattle.policy.specs.declared.Rule.{Rule}
 use Rattle.policy.specs.Questions.{queryInRange}
 use Rattle.policy.specs.Laws.{Answers, firstNo-zero, answered-with, accepted as query-accepted}
 use Rattle.policy.specs.Record.{noRule, ruleOf, Eights, Sized}
 use Rattle.engine.specs.Meaning.{AllYes}
 use Rattle.format.specs.Bounds.{longestFile}
-use Rattle.reader.specs.Cleared.{clearedReading}
 use Rattle.format.specs.Cleared.{cleared, clearedRule}
-use Rattle.reader.specs.File.{readingOf, readOf}
 use Rattle.format.specs.Entries.{zeroRule, recordOf}
 use Rattle.format.specs.Format.{decisionsOf}
-use Rattle.base.specs.Lists.{filled}
+use Rattle.reader.specs.Cleared.{clearedReading}
+use Rattle.reader.specs.File.{readingOf, readOf}
+use Rattle.threshold.specs.AtLeast.{decisionsTo, number, without, fewer, having, firstFor, rulesFor, row, rows, plain, atLeast, eight}
+use Rattle.threshold.specs.AtLeast.{stated}
+use Rattle.threshold.specs.Laws.Taken.{accepted}
 use Rattle.writer.specs.Claim.{AcceptedRecord}
 use Rattle.writer.specs.Writing.{queriesInRange, recordQuestions, writeQuestions}
 use Rattle.writer.specs.Laws.Room.{room}
 use Rattle.writer.specs.Laws.Saved.{short, reads-written}
-use Rattle.threshold.specs.AtLeast.{decisionsTo, number, without, fewer, having, firstFor, rulesFor, row, rows, plain}
-use Rattle.threshold.specs.AtLeast.{atLeast, eight, stated}
-use Rattle.threshold.specs.Laws.Taken.{accepted}
 use Rattle.longest.specs.Printed.{theFile}
 
 -- ---- the arrays are as long as their structs declare

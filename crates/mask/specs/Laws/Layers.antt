@@ -5,9 +5,9 @@ use native.Mathlib.Nat.{one-mul}
 use native.Mathlib.Omega.{arith}
 use lib.Count.{ones, onesIn, ones-cat}
 use lib.Dec.{eqb, eqb→eq, eqb·zero-suc, eqb·suc-suc}
-use Rattle.mask.specs.Mask.{sized}
 use Rattle.base.specs.Counted.{counted}
 use Rattle.base.specs.Laws.Counted.{counted-same, counted-apart, counted-none}
+use Rattle.mask.specs.Mask.{sized}
 
 -- of the sets of n things those with k members (the binomial coefficient): those without the last thing, and those with it
 unfoldable pub choose : ℕ → ℕ → ℕ

@@ -8,8 +8,8 @@ use native.Mathlib.Omega.{arith}
 use lib.Count.{ones, onesIn, ones-step, ones-cat, ones-le}
 use lib.Dec.{eqb}
 use lib.Pow.{pow-pos, mod-pow-add}
-use Rattle.mask.specs.Mask.{has, _⊆_}
 use Rattle.base.specs.Counted.{counted}
+use Rattle.mask.specs.Mask.{has, _⊆_}
 use Rattle.mask.specs.Laws.{digit, low-le, ⊆-half, ⊆-self, ⊆-join, below-pow}
 
 -- the empty mask has none

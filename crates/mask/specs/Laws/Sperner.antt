@@ -7,12 +7,11 @@ use mathlib.Core.Bool.{Bool}
 use mathlib.Core.Path.{_≡_}
 use native.Mathlib.Omega.{arith}
 use lib.Dec.{T, leb, leb→le}
-use Rattle.mask.specs.Mask.{_⊆_}
 use Rattle.base.specs.Every.{everyBelow}
-use Rattle.mask.specs.Mask.{sized}
 use Rattle.base.specs.Counted.{counted}
-use Rattle.mask.specs.Laws.Layers.{choose, layer}
 use Rattle.base.specs.Laws.Tests.{everyBelow-at}
+use Rattle.mask.specs.Mask.{_⊆_, sized}
+use Rattle.mask.specs.Laws.Layers.{choose, layer}
 use Chains.{chains-middle}
 use Width.{Chained, width}
 

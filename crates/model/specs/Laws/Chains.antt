@@ -4,8 +4,8 @@ use native.Mathlib.Nat.{lt-irrefl}
 use native.Mathlib.Omega.{arith}
 use lib.Dec.{ltb, ltb→lt, lt→ltb}
 use Rattle.base.specs.Counted.{counted}
-use Rattle.mask.specs.Laws.{has→<}
 use Rattle.base.specs.Laws.Counted.{counted-most, counted-fewer}
+use Rattle.mask.specs.Laws.{has→<}
 use Rattle.policy.specs.declared.Policy.{Policy}
 use Rattle.policy.specs.declared.Query.{Query}
 use Rattle.policy.specs.Record.{alsoOf, weightOf}

@@ -8,6 +8,7 @@ use native.Mathlib.Nat.{eq-or-lt-of-le, le-refl, le-of-eq}
 use native.Mathlib.Omega.{arith}
 use lib.ListN.{getD, List·getD-eq-default}
 use Rattle.base.specs.Laws.Tests.{untrue, last-or-below}
+use Rattle.base.specs.Laws.All.{All, all-nil, all-cons}
 use Rattle.policy.specs.declared.Policy.{Policy}
 use Rattle.policy.specs.declared.Query.{Query}
 use Rattle.policy.specs.Questions.{Accepted}
@@ -16,7 +17,6 @@ use Rattle.model.specs.Derivation.{Steps, Derivation, Derivable}
 use Rattle.model.specs.Fire.{State, holds, upTo}
 use Rattle.model.specs.Model.{Applies, Model, IsModel}
 use Rattle.model.specs.Laws.Strata.{Stratified, stratified}
-use Rattle.base.specs.Laws.All.{All, all-nil, all-cons}
 use Rattle.model.specs.Laws.Derived.{unfolds}
 use Rattle.model.specs.Laws.Invariant.{Good, lower-held}
 use Rattle.model.specs.Laws.Levels.{good-upTo}

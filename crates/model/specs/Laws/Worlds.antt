@@ -6,9 +6,9 @@ use mathlib.Core.Path.{_≡_}
 use native.Mathlib.Nat.{le-refl, not-suc-le-zero, le-of-suc-le-suc}
 use lib.Bits.{bitOr}
 use lib.Dec.{T}
+use Rattle.base.specs.Laws.Tests.{or-left, or-right, or-cases, below-suc, last-or-below}
 use Rattle.mask.specs.Mask.{has}
 use Rattle.mask.specs.Laws.{has-or, has-none}
-use Rattle.base.specs.Laws.Tests.{or-left, or-right, or-cases, below-suc, last-or-below}
 use Rattle.policy.specs.declared.Policy.{Policy}
 use Rattle.policy.specs.declared.Query.{Query}
 use Rattle.policy.specs.declared.Rule.{Rule}

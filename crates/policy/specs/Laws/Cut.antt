@@ -14,8 +14,8 @@ use Rattle.policy.specs.declared.Policy.{Policy}
 use Rattle.policy.specs.declared.Action.{Action}
 use Rattle.policy.specs.declared.Rule.{Rule}
 use Rattle.policy.specs.declared.Decisions.{Decisions}
-use Rattle.policy.specs.Record.{noRule, noAction, listed, levelsOf, actionsOf, rulesOf, ruleOf, headOf, levelOf}
-use Rattle.policy.specs.Record.{alsoOf, weightOf, cutList, cutRule, cut, withLevels}
+use Rattle.policy.specs.Record.{noRule, noAction, listed, levelsOf, actionsOf, rulesOf, ruleOf, headOf, levelOf, alsoOf, weightOf}
+use Rattle.policy.specs.Record.{cutList, cutRule, cut, withLevels}
 use Rattle.policy.specs.Questions.{Question, firstNo, questions, listInRange, ruleInRange, ruleRises, levelsBelow, ruleLevelsFit}
 use Rattle.policy.specs.Questions.{heavier, outweighs, othersInRange, inRange, listsRise, levelsFit, weightsFit}
 use Rattle.policy.specs.Laws.{ListFits, RuleFits, rule-fits}

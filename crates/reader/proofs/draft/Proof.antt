@@ -7,8 +7,8 @@ use borrow.Author.Needs.{needs}
 use denote.Ref.{now}
 use lib.ListN.{length}
 use Rattle.format.specs.Bounds.{mostBytes}
-use Rattle.reader.specs.File.{draft}
 use Rattle.lines.proofs.Steps.{stays, next, asked, denied}
+use Rattle.reader.specs.File.{draft}
 use Rattle.reader.proofs.Handed.{hands-refusal, hands-reading, more-follows, nothing-follows}
 use Rattle.reader.proofs.draft.Statement.{statement}
 use Rattle.reader.proofs.draft.Tie as tie

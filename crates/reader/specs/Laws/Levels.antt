@@ -8,16 +8,16 @@ use mathlib.Core.List.{List, [], _∷_}
 use lib.ListN.{length, getD, take, replicate}
 use lib.Seq.{length-take-le}
 use Rattle.base.specs.Laws.Tests.{passes}
+use Rattle.base.specs.Lists.{filled}
+use Rattle.base.specs.Laws.All.{all-of}
 use Rattle.policy.specs.Record.{withLevels}
 use Rattle.policy.specs.Questions.{levelsFit, weightsFit}
-use Rattle.reader.specs.declared.Reading.{Reading}
 use Rattle.format.specs.Written.{fileOf}
-use Rattle.base.specs.Lists.{filled}
-use Rattle.reader.specs.File.{readingOf, draftOf, readOf}
 use Rattle.format.specs.Entries.{recordOf}
-use Rattle.base.specs.Laws.All.{all-of}
-use Rattle.reader.specs.Laws.Readings.{readingText, ReadableLines}
 use Rattle.format.specs.Laws.Policies.{ReadableEntries}
+use Rattle.reader.specs.declared.Reading.{Reading}
+use Rattle.reader.specs.File.{readingOf, draftOf, readOf}
+use Rattle.reader.specs.Laws.Readings.{readingText, ReadableLines}
 use Rattle.reader.specs.Laws.Files.{drafted, read-passed, draft-complete}
 
 -- levels that a file of n decisions states: 128 numbers, at most 15 below n and 0 from n on

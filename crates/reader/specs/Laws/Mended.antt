@@ -11,8 +11,8 @@ use Rattle.strata.specs.declared.Levelling.{Levelling}
 use Rattle.strata.specs.Levels.{foundLevels}
 use Rattle.strata.specs.Laws.Levels.{finds-levels}
 use Rattle.engine.specs.Laws.Levelled.{SameAnswers, found-for, found-alike}
-use Rattle.reader.specs.declared.Reading.{Reading}
 use Rattle.format.specs.Written.{fileOf}
+use Rattle.reader.specs.declared.Reading.{Reading}
 use Rattle.reader.specs.File.{draftOf, readOf}
 use Rattle.reader.specs.Claim.{AcceptedFile, queryOf}
 use Rattle.reader.specs.Laws.Files.{draft-of-accepted}

@@ -6,21 +6,21 @@ use mathlib.Core.List.{List, [], _∷_, map}
 use lib.ListN.{length, take, getD, List·getD-append, length-map, length-take}
 use lib.Seq.{getD-take}
 use Rattle.base.specs.Laws.Tests.{passes}
+use Rattle.base.specs.Lists.{filled}
+use Rattle.base.specs.Laws.Lists.{filled-length}
 use Rattle.policy.specs.declared.Rule.{Rule}
 use Rattle.policy.specs.declared.Decisions.{Decisions}
 use Rattle.policy.specs.Record.{listed, levelsOf, actionsOf, rulesOf, ruleOf, noAction, noRule, Sized}
 use Rattle.policy.specs.Laws.{InRange, in-range}
-use Rattle.reader.specs.declared.Reading.{Reading}
 use Rattle.format.specs.Format.{decisionsOf}
-use Rattle.base.specs.Lists.{filled}
-use Rattle.reader.specs.File.{readingOf, draftOf, readOf}
 use Rattle.format.specs.Entries.{zeroRule, zeroQuery, recordOf}
-use Rattle.reader.specs.Cleared.{clearedReading}
 use Rattle.format.specs.Cleared.{clearedRule, cleared}
+use Rattle.reader.specs.declared.Reading.{Reading}
+use Rattle.reader.specs.File.{readingOf, draftOf, readOf}
+use Rattle.reader.specs.Cleared.{clearedReading}
 use Rattle.reader.specs.Claim.{AcceptedFile, DraftStates, States}
 use Rattle.reader.specs.Laws.Files.{draft-of-accepted}
 use Rattle.reader.specs.Laws.Back.{draft-back}
-use Rattle.base.specs.Laws.Lists.{filled-length}
 
 -- the entry at i of a list with f of each entry
 map-at : {A B : Type 0} (f : A → B) (d : A) (e : B) (l : List A) (i : ℕ) → i < length l → getD (map f l) i e ≡ f (getD l i d)

@@ -5,6 +5,8 @@ use native.Mathlib.Decide.{ℕ-discrete}
 use native.Mathlib.Omega.{arith}
 use lib.ListN.{length, length-append, length-take}
 use lib.Pow.{pow-mono}
+use Rattle.base.specs.Laws.All.{All}
+use Rattle.mask.specs.Laws.Among.{among-at}
 use Rattle.policy.specs.declared.Policy.{Policy}
 use Rattle.policy.specs.declared.Query.{Query}
 use Rattle.policy.specs.Questions.{firstNo, queryQuestions, Accepted}
@@ -12,12 +14,10 @@ use Rattle.policy.specs.Laws.{accepted-range}
 use Rattle.engine.specs.declared.Answer.{Answer}
 use Rattle.engine.specs.declared.Answer.the-variants.{Refused as choose-refused, None, Chosen}
 use Rattle.engine.specs.Calls.{slim, slimSets, best, answer, chooseOf, fireOf}
-use Rattle.mask.specs.Laws.Among.{among-at}
 use Rattle.engine.specs.Laws.Few.{few-slim, fire-places}
 use Rattle.engine.specs.Laws.Refusals.{refused}
 use Rattle.format.specs.Text.{decimal}
 use Rattle.format.specs.Written.{commas}
-use Rattle.base.specs.Laws.All.{All}
 use Rattle.format.specs.Laws.Lengths.{decimal-length, ten-digits, commas-length, line-length}
 use Rattle.text.specs.Put.{refusedText}
 use Rattle.results.specs.Printed.{longestResult, answerText, setsListed, rulesFired, resultText}

@@ -6,6 +6,7 @@ use native.Mathlib.Omega.{arith}
 use borrow.Author.Needs.{needs}
 use borrow.Author.Tests.{not-true, not-false}
 use lib.ListN.{getD}
+use Rattle.base.specs.Laws.Totals.{total}
 use Rattle.policy.specs.declared.Query.{Query}
 use Rattle.policy.specs.Questions.{Accepted}
 use Rattle.policy.specs.Record.{ruleOf}
@@ -13,10 +14,10 @@ use Rattle.policy.specs.Laws.{RuleFits}
 use Rattle.order.specs.Laws.{Hand, level-hand}
 use Rattle.settle.specs.Right.{AreWords, Right, Enabling}
 use Rattle.settle.specs.Laws.Right.{right-start}
-use Rattle.settle.specs.Laws.Room.{total, total-bound, are-words-none}
+use Rattle.settle.specs.Laws.Room.{total-bound, are-words-none}
 use Rattle.settle.specs.Laws.Settled.{right-last, level-part, level-settled}
-use Rattle.settle.proofs.Passing.{Works, works-none, works-more, any-index, any-small, any-rule, any-works, any-kept}
-use Rattle.settle.proofs.Passing.{AtPlace, at-first, place-again, place-more, place-idle}
+use Rattle.settle.proofs.Passing.{Works, works-none, works-more, any-index, any-small, any-rule, any-works, any-kept, AtPlace}
+use Rattle.settle.proofs.Passing.{at-first, place-again, place-more, place-idle}
 use Rattle.settle.proofs.levels.Statement.{statement}
 use Rattle.settle.proofs.levels.Tie as tie
 

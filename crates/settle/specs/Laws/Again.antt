@@ -7,9 +7,9 @@ use mathlib.Core.Path.{_≡_, sym, subst}
 use lib.Dec.{T, T-not, not-T}
 use lib.ListN.{length}
 use lib.Seq.{getD-set-other}
+use Rattle.base.specs.Laws.Tests.{every-at, every-make}
 use Rattle.mask.specs.Mask.{has}
 use Rattle.mask.specs.Laws.{has-none, ⊆-antisym}
-use Rattle.base.specs.Laws.Tests.{every-at, every-make}
 use Rattle.policy.specs.declared.Rule.{Rule}
 use Rattle.policy.specs.Record.{listed}
 use Rattle.settle.specs.Words.{addedOf, grown}

@@ -6,11 +6,11 @@ use mathlib.Core.Path.{_≡_, refl, sym, subst, _∙_}
 use lib.Dec.{T}
 use lib.ListN.{getD}
 use lib.Bits.{bitAnd}
-use Rattle.mask.specs.Mask.{has}
 use Rattle.base.specs.Every.{every}
+use Rattle.base.specs.Laws.Tests.{and-make, and-left, and-right}
+use Rattle.mask.specs.Mask.{has}
 use Rattle.mask.specs.Laws.{has-and, has-none, ⊆→<, ⊆-antisym}
 use Rattle.mask.specs.Laws.Packed.{minus, has-minus}
-use Rattle.base.specs.Laws.Tests.{and-make, and-left, and-right}
 use Rattle.policy.specs.declared.Rule.{Rule}
 use Rattle.policy.specs.Record.{listed}
 use Rattle.settle.specs.Words.{folded, allOf, noneOf, addedOf}

@@ -8,9 +8,9 @@ use lib.Bits.{bitOr, or-zero-r}
 use lib.Dec.{T}
 use lib.ListN.{length, getD}
 use lib.Seq.{getD-set-same, getD-set-other, set-getD}
+use Rattle.base.specs.Laws.Tests.{or-left, or-right, or-cases}
 use Rattle.mask.specs.Mask.{has}
 use Rattle.mask.specs.Laws.{has-or}
-use Rattle.base.specs.Laws.Tests.{or-left, or-right, or-cases}
 use Rattle.settle.specs.Words.{grown}
 use Rattle.settle.specs.Right.{bit}
 

@@ -7,9 +7,9 @@ use mathlib.Core.Path.{_≡_, sym, subst, _∙_}
 use native.Mathlib.Omega.{arith}
 use lib.Dec.{T}
 use lib.ListN.{length, replicate, length-set, length-replicate}
+use Rattle.base.specs.Laws.Tests.{either, and-make, and-left, and-right, every-at, every-make, getD-filled}
 use Rattle.mask.specs.Mask.{has}
 use Rattle.mask.specs.Laws.{has-none, contains-iff}
-use Rattle.base.specs.Laws.Tests.{either, and-make, and-left, and-right, every-at, every-make, getD-filled}
 use Rattle.policy.specs.declared.Policy.{Policy}
 use Rattle.policy.specs.declared.Query.{Query}
 use Rattle.policy.specs.Questions.{Accepted}

@@ -1,36 +1,22 @@
 -- How far words can still grow: each addition makes their sum larger, and no word grows past 64 bits.
-use Prim.Native.Nat.{ℕ, zero, suc, _+_, _*_, _^_, _≤_, _<_, zero-le}
-use mathlib.Core.List.{List, [], _∷_}
+use Prim.Native.Nat.{ℕ, _+_, _*_, _^_, _≤_, _<_}
+use mathlib.Core.List.{List}
 use mathlib.Core.Logic.{_≢_}
 use mathlib.Core.Path.{_≡_, subst, sym, ap, _∙_}
 use native.Mathlib.Decide.{ℕ-discrete}
 use native.Mathlib.Omega.{arith}
 use lib.Bits.{bitAnd, bitOr, or-add-and, or-lt}
 use lib.Dec.{T-not, eqb→eq, lit<}
-use lib.ListN.{length, getD, set, replicate, length-set, length-replicate}
+use lib.ListN.{getD, set, replicate, length-set, length-replicate}
 use lib.Seq.{getD-set-same, getD-set-other}
+use Rattle.base.specs.Laws.Totals.{total, total-set, total-most}
+use Rattle.base.specs.Laws.Tests.{getD-filled}
 use Rattle.mask.specs.Mask.{has}
 use Rattle.mask.specs.Laws.{disjoint-iff}
-use Rattle.base.specs.Laws.Tests.{getD-filled}
 use Rattle.policy.specs.declared.Rule.{Rule}
 use Rattle.settle.specs.Words.{addedOf, grown}
 use Rattle.settle.specs.Right.{AreWords}
 use Rattle.settle.specs.Laws.Bits.{adds, added-lt}
-
-unfoldable pub total : List ℕ → ℕ
-total [] = 0
-total (l ∷ ls) = l + total ls
-
-total-set : (l : List ℕ) (i v : ℕ) → i < length l → total (set l i v) + getD l i 0 ≡ total l + v
-unfolding total
-total-set [] i v h = absurd (omega arith)
-total-set (x ∷ l) zero v h = omega arith
-total-set (x ∷ l) (suc i) v h = omega (arith, total-set l i v (omega arith))
-
-total-most : (l : List ℕ) (m : ℕ) → ((d : ℕ) → getD l d 0 ≤ m) → total l ≤ length l * m
-unfolding total
-total-most [] m h = zero-le
-total-most (x ∷ l) m h = omega (arith, h 0, total-most l m (λ d. h (suc d)))
 
 -- what a rule adds is not held yet
 apart : (held : List ℕ) (word : ℕ) (r : Rule) → bitAnd (getD held (r .head) 0) (addedOf held word r) ≡ 0

@@ -10,13 +10,15 @@ use lib.Dec.{T, le→leb}
 use lib.ListN.{getD, replicate}
 use lib.Seq.{ext-getD}
 use Rattle.base.specs.Laws.Tests.{is-true, passes, not-both, choice, getD-filled, entries-make}
+use Rattle.base.specs.Laws.Totals.{total}
 use Rattle.policy.specs.declared.Policy.{Policy}
 use Rattle.policy.specs.Record.{noRule, withLevels}
 use Rattle.policy.specs.Questions.{firstNo, levelInRange, ruleLevelsFit, othersInRange, listsRise, levelsFit, weightsFit, questions}
-use Rattle.policy.specs.Laws.{levels-small, InRange, in-range, range-with, answered-with, firstNo-zero}
 use Rattle.policy.specs.Questions.{refusedOr, checkOf}
-use Rattle.strata.specs.Levels.{fits, small, raised, rounds, lowest, levelQuestions, refusedLevels, foundLevels, Lowest, FindsLevels}
-use Rattle.strata.specs.Laws.Raised.{EachSmall, total, total-small, Reached, Met, Since, reached-none, reached-raised, since-round}
+use Rattle.policy.specs.Laws.{levels-small, InRange, in-range, range-with, answered-with, firstNo-zero}
+use Rattle.strata.specs.Levels.{fits, small, raised, rounds, lowest, levelQuestions, refusedLevels, foundLevels, Lowest}
+use Rattle.strata.specs.Levels.{FindsLevels}
+use Rattle.strata.specs.Laws.Raised.{EachSmall, total-small, Reached, Met, Since, reached-none, reached-raised, since-round}
 
 module _ (p : Policy) where
   -- levels in range are at most 15, where they are 0 past the count

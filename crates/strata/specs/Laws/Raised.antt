@@ -10,6 +10,7 @@ use native.Mathlib.Omega.{arith}
 use lib.Dec.{T, ltb, lt→ltb}
 use lib.ListN.{length, getD, set, replicate, length-set, length-replicate}
 use lib.Seq.{getD-set-same, getD-set-other, set-getD}
+use Rattle.base.specs.Laws.Totals.{total, total-set, total-most}
 use Rattle.base.specs.Laws.Tests.{and-make, every-make, getD-filled, last-or-below}
 use Rattle.policy.specs.declared.Policy.{Policy}
 use Rattle.policy.specs.declared.Rule.{Rule}
@@ -92,25 +93,12 @@ set-case P l i v d h here there = elim (ℕ-discrete d i) [
   | no ne ↦ rw (getD-set-other l i d v 0 ne) there
 ]
 
--- the sum of levels
-unfoldable pub total : List ℕ → ℕ
-total [] = 0
-total (l ∷ ls) = l + total ls
-
-total-set : (l : List ℕ) (i v : ℕ) → i < length l → total (set l i v) + getD l i 0 ≡ total l + v
-unfolding total
-total-set [] i v h = absurd (omega arith)
-total-set (x ∷ l) zero v h = omega arith
-total-set (x ∷ l) (suc i) v h = omega (arith, total-set l i v (omega arith))
-
 -- each level is at most 15
 abbrev pub EachSmall : List ℕ → Type 0
 EachSmall level = (d : ℕ) → getD level d 0 ≤ 15
 
 pub total-small : (l : List ℕ) → EachSmall l → total l ≤ 15 * length l
-unfolding total
-total-small [] h = omega arith
-total-small (x ∷ l) h = omega (arith, h 0, total-small l (λ d. h (suc d)))
+total-small l h = omega (arith, total-most l 15 h)
 
 module _ (p : Policy) where
   -- levels that raising from 0 may come to: no levels that fit are lower

@@ -5,9 +5,9 @@ use mathlib.Core.Logic.{⊎-elim}
 use mathlib.Core.Path.{_≡_, sym, _∙_, ap}
 use native.Mathlib.Omega.{arith}
 use borrow.Author.Needs.{needs}
+use Rattle.weight.specs.Cost.{weighed}
 use Rattle.covers.specs.Covers.{Marks}
 use Rattle.survey.specs.declared.Found.{Found}
-use Rattle.weight.specs.Cost.{weighed}
 use Rattle.survey.specs.Survey.{Weighed}
 use Rattle.survey.specs.Laws.Slims.{marks-zero}
 use Rattle.survey.proofs.Surveyed.{weighed-at, weighed-idle, weighed-skip, weighed-more}

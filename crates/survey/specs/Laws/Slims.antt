@@ -7,25 +7,25 @@ use native.Mathlib.Omega.{arith}
 use borrow.Author.Tests.{lt-ltb}
 use lib.Dec.{T, T-not, ltb, ltb→lt}
 use lib.ListN.{getD}
+use Rattle.base.specs.Laws.Tests.{is-false, passes, someBelow-same}
 use Rattle.mask.specs.Mask.{has, contains}
 use Rattle.mask.specs.Family.{among, takenWithin, minimal, lightest}
 use Rattle.mask.specs.Laws.{has-none}
 use Rattle.mask.specs.Laws.Packed.{packed-bit}
-use Rattle.base.specs.Laws.Tests.{is-false, passes, someBelow-same}
 use Rattle.mask.specs.Laws.Lightest.{lightest-idle, lightest-same}
+use Rattle.mask.specs.Laws.Among.{among-idle, among-same}
 use Rattle.policy.specs.declared.Policy.{Policy}
 use Rattle.policy.specs.declared.Query.{Query}
 use Rattle.policy.specs.Questions.{Accepted}
+use Rattle.model.specs.Clears.{clears}
+use Rattle.weight.specs.Cost.{costOf}
+use Rattle.weight.specs.Slim.{slim, slimSets}
 use Rattle.columns.specs.Sets.{setAt, allSets}
 use Rattle.columns.specs.Laws.Columns.{all-set}
 use Rattle.words.specs.Models.{wordOf}
 use Rattle.words.specs.Laws.Wanted.{wanted-bit}
-use Rattle.covers.specs.Covers.{wordsOf, Marks, Table, Members, markedIn}
+use Rattle.covers.specs.Covers.{wordCount, Marks, Table, Members, markedIn}
 use Rattle.covers.specs.Laws.Marks.{table-marked}
-use Rattle.weight.specs.Cost.{costOf}
-use Rattle.model.specs.Clears.{clears}
-use Rattle.weight.specs.Slim.{slim, slimSets}
-use Rattle.mask.specs.Laws.Among.{among-idle, among-same}
 use Rattle.survey.specs.Survey.{family}
 
 -- a table marks the sets of its words
@@ -76,11 +76,11 @@ module _ (p : Policy) (q : Query) where
         ∙ lightest-same (minimal (family p q)) (slim p q) (costOf p) (costOf p) (2 ^ p .actions) slim-in (λ s. refl)
 
   -- and so are the sets that the table of the minimal members marks
-  pub slims-marked : (table : List ℕ) → Table (minimal (family p q)) (wordsOf (p .actions)) table
-      → among (markedIn table) (64 * wordsOf (p .actions)) ≡ slimSets p q
+  pub slims-marked : (table : List ℕ) → Table (minimal (family p q)) (wordCount (p .actions)) table
+      → among (markedIn table) (64 * wordCount (p .actions)) ≡ slimSets p q
   slims-marked table so =
-      among-same (markedIn table) (minimal (family p q)) (64 * wordsOf (p .actions)) (λ s h. table-marked so s h)
-      ∙ slims-all (64 * wordsOf (p .actions)) (omega arith)
+      among-same (markedIn table) (minimal (family p q)) (64 * wordCount (p .actions)) (λ s h. table-marked so s h)
+      ∙ slims-all (64 * wordCount (p .actions)) (omega arith)
 
   -- ---- the members among the sets of a word
   -- where all are covered without one of their upper actions, none need be known

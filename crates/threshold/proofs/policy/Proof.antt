@@ -3,11 +3,11 @@ use mathlib.Core.List.{List}
 use mathlib.Core.Path.{ap₂, _∙_}
 use borrow.Author.Needs.{needs}
 use lib.ListN.{replicate}
+use Rattle.base.specs.Lists.{filled}
 use Rattle.policy.specs.declared.Rule.{Rule}
 use Rattle.policy.specs.declared.Action.{Action}
 use Rattle.policy.specs.declared.Policy.{Policy}
 use Rattle.format.specs.Entries.{recordOf}
-use Rattle.base.specs.Lists.{filled}
 use Rattle.threshold.specs.AtLeast.{atLeast}
 use Rattle.threshold.specs.Laws.Taken.{rows-length}
 use Rattle.threshold.proofs.policy.Statement.{statement}

@@ -4,10 +4,10 @@ use mathlib.Core.List.{_∷_}
 use mathlib.Core.Path.{ap}
 use borrow.Author.Needs.{needs}
 use lib.ListN.{replicate}
-use Rattle.policy.specs.declared.Queries.{Queries}
-use Rattle.reader.specs.File.{readingOf}
-use Rattle.format.specs.Entries.{zeroQuery}
 use Rattle.base.specs.Lists.{filled}
+use Rattle.policy.specs.declared.Queries.{Queries}
+use Rattle.format.specs.Entries.{zeroQuery}
+use Rattle.reader.specs.File.{readingOf}
 use Rattle.threshold.specs.AtLeast.{eight, stated}
 use Rattle.threshold.proofs.queries.Statement.{statement}
 use Rattle.threshold.proofs.queries.Tie as tie

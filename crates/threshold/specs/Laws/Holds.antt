@@ -7,22 +7,22 @@ use mathlib.Core.Path.{_≡_, refl, sym, ap, subst, _∙_}
 use native.Mathlib.Omega.{arith}
 use lib.Dec.{T, T-not, eqb·suc-suc, eqb·suc-zero}
 use lib.ListN.{List·getD-append}
-use Rattle.mask.specs.Mask.{has, _⊆_}
 use Rattle.base.specs.Counted.{counted}
-use Rattle.mask.specs.Laws.{has-none, one-has, one-⊆}
 use Rattle.base.specs.Laws.Counted.{counted-most}
 use Rattle.base.specs.Laws.Tests.{is-true, is-false, either, getD-filled, getD-in, place-of}
+use Rattle.base.specs.Laws.All.{All, all-nil, all-cons, all-head}
+use Rattle.base.specs.Lists.{filled}
+use Rattle.base.specs.Laws.Lists.{filled-front, filled-length}
+use Rattle.mask.specs.Mask.{has, _⊆_}
+use Rattle.mask.specs.Laws.{has-none, one-has, one-⊆}
 use Rattle.policy.specs.declared.Rule.{Rule}
 use Rattle.policy.specs.Record.{noRule, listed, rulesOf, ruleOf, headOf, levelOf}
 use Rattle.model.specs.World.{Enabled}
 use Rattle.model.specs.Derivation.{Derivable}
 use Rattle.model.specs.Model.{Applies, Model}
-use Rattle.base.specs.Laws.All.{All, all-nil, all-cons, all-head}
 use Rattle.model.specs.Laws.Model.{is-model}
-use Rattle.base.specs.Lists.{filled}
 use Rattle.format.specs.Entries.{zeroRule, recordOf}
 use Rattle.format.specs.Laws.Lists.{listed-of}
-use Rattle.base.specs.Laws.Lists.{filled-front, filled-length}
 use Rattle.threshold.specs.AtLeast.{There, number, without, fewer, having, rulesFor, rows, atLeast, eight}
 use Rattle.threshold.specs.Laws.Taken.{rows-length, rules-are, accepted}
 use Rattle.threshold.specs.Laws.Numbers.{apart, is-rule, without-in, having-in, rows-at, rows-make}

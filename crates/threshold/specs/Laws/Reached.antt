@@ -9,24 +9,24 @@ use lib.Bits.{or-zero-r}
 use lib.Count.{ones}
 use lib.Dec.{T, lit<, eqb, eqb→eq}
 use lib.ListN.{length, getD, replicate}
+use Rattle.base.specs.Laws.Tests.{same}
+use Rattle.base.specs.Lists.{filled}
 use Rattle.mask.specs.Mask.{has, sized}
 use Rattle.mask.specs.Laws.{has-none, ⊆→<}
-use Rattle.base.specs.Laws.Tests.{same}
 use Rattle.mask.specs.Laws.Ones.{counted-ones, fewer-ones, same-size, one-fewer}
 use Rattle.mask.specs.Laws.Layers.{layer, halves}
+use Rattle.mask.specs.Family.{among}
+use Rattle.mask.specs.Laws.Among.{among-same, among-counted}
 use Rattle.policy.specs.declared.Action.{Action}
 use Rattle.policy.specs.Questions.{firstNo}
 use Rattle.policy.specs.Record.{noAction}
 use Rattle.model.specs.World.{alsoes, followed, worldIn, worldOf}
 use Rattle.model.specs.Derivation.{Derivable}
 use Rattle.engine.specs.declared.Listing.the-variants.{Refused}
-use Rattle.mask.specs.Family.{among}
 use Rattle.engine.specs.Sets.{mostSlim, Enough, Slim}
 use Rattle.engine.specs.Calls.{slim, slimSets, listQuestions, listOf}
-use Rattle.mask.specs.Laws.Among.{among-same, among-counted}
 use Rattle.engine.specs.Laws.Decide.{slim-iff}
 use Rattle.engine.specs.Laws.Refusals.{refused, list-no}
-use Rattle.base.specs.Lists.{filled}
 use Rattle.format.specs.Entries.{recordOf}
 use Rattle.threshold.specs.AtLeast.{There, number, plain, atLeast, eight}
 use Rattle.threshold.specs.Laws.Taken.{accepted}

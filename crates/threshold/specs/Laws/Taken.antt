@@ -2,13 +2,14 @@
 use mathlib.Core.Path.{_≡_, refl}
 use lib.ListN.{length}
 use Rattle.base.specs.Every.{every, everyBelow}
-use Rattle.policy.specs.Questions.{firstNo, questions, queryInRange, inRange, othersInRange, countsInRange, levelInRange}
-use Rattle.policy.specs.Questions.{actionInRange, ruleInRange, listInRange, listsRise, ruleRises, rises, levelsFit, ruleLevelsFit}
-use Rattle.policy.specs.Questions.{levelsBelow, weightsFit, outweighs, heavier, Accepted}
+use Rattle.base.specs.Lists.{filled}
+use Rattle.policy.specs.Questions.{firstNo, questions, queryInRange, inRange, othersInRange, countsInRange, levelInRange, actionInRange}
+use Rattle.policy.specs.Questions.{ruleInRange, listInRange, listsRise, ruleRises, rises, levelsFit, ruleLevelsFit, levelsBelow}
+use Rattle.policy.specs.Questions.{weightsFit, outweighs, heavier, Accepted}
 use Rattle.format.specs.Entries.{recordOf, zeroRule}
 use Rattle.format.specs.Format.{decisionsOf}
-use Rattle.base.specs.Lists.{filled}
-use Rattle.threshold.specs.AtLeast.{decisionsTo, number, without, fewer, having, firstFor, rulesFor, row, rows, plain, atLeast, eight}
+use Rattle.threshold.specs.AtLeast.{decisionsTo, number, without, fewer, having, firstFor, rulesFor, row, rows, plain, atLeast}
+use Rattle.threshold.specs.AtLeast.{eight}
 
 -- so many decisions are there, and 192 rules
 pub hundred : decisionsTo 16 ≡ 100

@@ -4,10 +4,10 @@ use mathlib.Core.Path.{_≡_, sym, subst}
 use native.Mathlib.Omega.{arith}
 use borrow.Author.Needs.{needs}
 use lib.ListN.{getD, length-replicate}
-use Rattle.policy.specs.Record.{ruleOf}
 use Rattle.base.specs.Laws.Tables.{Tabled}
-use Rattle.columns.specs.Sets.{neededOf}
 use Rattle.base.proofs.Tabling.{tabled-none, tabled-more}
+use Rattle.policy.specs.Record.{ruleOf}
+use Rattle.columns.specs.Sets.{neededOf}
 use Rattle.columns.specs.Laws.Needed.{needed-lt}
 use Rattle.settle.specs.Right.{AreWords}
 use Rattle.settle.specs.Laws.Room.{are-words-none, are-words-set}

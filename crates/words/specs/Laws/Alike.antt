@@ -3,9 +3,9 @@ use Prim.Native.Nat.{ℕ, _^_, _<_}
 use mathlib.Core.Bool.{Bool, _&&_}
 use mathlib.Core.Path.{_≡_, _∙_, ap}
 use lib.Dec.{ltb, ltb→lt}
-use Rattle.mask.specs.Laws.Packed.{packed-same}
 use Rattle.base.specs.Laws.Tables.{table-length, table-only}
 use Rattle.base.specs.Laws.Tests.{and-same}
+use Rattle.mask.specs.Laws.Packed.{packed-same}
 use Rattle.policy.specs.declared.Policy.{Policy}
 use Rattle.policy.specs.declared.Query.{Query}
 use Rattle.model.specs.Clears.{clears}

@@ -7,12 +7,12 @@ use native.Mathlib.Omega.{arith}
 use lib.Dec.{T, T-not, not-T, eqb, eqb→eq, ltb, ltb→lt, lt→ltb}
 use lib.ListN.{length, getD, replicate}
 use lib.Pow.{pow-mono}
-use Rattle.mask.specs.Mask.{has, disjoint}
 use Rattle.base.specs.Lists.{table}
-use Rattle.mask.specs.Laws.{has-none, ⊆→<}
-use Rattle.mask.specs.Laws.Packed.{packed-lt, packed-bit, packed-only}
 use Rattle.base.specs.Laws.Tables.{Tabled, table-only, table-at}
 use Rattle.base.specs.Laws.Tests.{same, and-make, and-left, and-right}
+use Rattle.mask.specs.Mask.{has, disjoint}
+use Rattle.mask.specs.Laws.{has-none, ⊆→<}
+use Rattle.mask.specs.Laws.Packed.{packed-lt, packed-bit, packed-only}
 use Rattle.policy.specs.declared.Policy.{Policy}
 use Rattle.policy.specs.declared.Query.{Query}
 use Rattle.policy.specs.Questions.{Accepted}
@@ -28,10 +28,10 @@ use Rattle.model.specs.Laws.Strata.{stratified}
 use Rattle.columns.specs.Sets.{setAt, isOffered, offeredOf, gathered, foursOf, neededOf}
 use Rattle.columns.specs.Laws.Needed.{needed-bit}
 use Rattle.order.specs.Order.{Ordered}
-use Rattle.words.specs.Models.{asking, bitOf, wordOf, modelOf}
 use Rattle.settle.specs.Right.{bit, Right, Enabling}
-use Rattle.words.specs.Plan.{Worked}
 use Rattle.settle.specs.Laws.Right.{right-start}
+use Rattle.words.specs.Models.{asking, bitOf, wordOf, modelOf}
+use Rattle.words.specs.Plan.{Worked}
 
 module _ (p : Policy) (q : Query) (ok : Accepted p q) (w : ℕ) (small : w ≤ 1023) where
   abbrev pub sets : ℕ

@@ -6,9 +6,9 @@ use borrow.Author.Needs.{needs}
 use denote.Ref.{now}
 use lib.ListN.{length, replicate, length-replicate}
 use lib.Seq.{length-take-le}
-use Rattle.format.specs.Bounds.{longestFile}
 use Rattle.policy.specs.Questions.{firstNo, queryInRange}
 use Rattle.engine.specs.Meaning.{AllYes}
+use Rattle.format.specs.Bounds.{longestFile}
 use Rattle.text.specs.Laws.Putting.{Stands, stands, same-length, ends-within, same-text, at-start}
 use Rattle.writer.specs.Writing.{queriesInRange, recordQuestions, fileText}
 use Rattle.writer.specs.Laws.Room.{early, room, no-room}

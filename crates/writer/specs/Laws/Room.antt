@@ -11,8 +11,8 @@ use Rattle.base.specs.Laws.Tests.{fails}
 use Rattle.policy.specs.declared.Policy.{Policy}
 use Rattle.policy.specs.Questions.{firstNo}
 use Rattle.policy.specs.Laws.{all-yes, firstNo-stays, firstNo-front, firstNo-last, firstNo-last-no}
-use Rattle.engine.specs.Meaning.{AllYes}
 use Rattle.policy.specs.declared.Queries.{Queries}
+use Rattle.engine.specs.Meaning.{AllYes}
 use Rattle.writer.specs.Writing.{queriesInRange, recordQuestions, fileText, roomQuestion, writeQuestions}
 
 module _ (p : Policy) (qs : Queries) (places : ℕ) where

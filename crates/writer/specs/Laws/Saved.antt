@@ -12,14 +12,14 @@ use Rattle.base.specs.Laws.Tests.{is-true, passes, and-make, parts, entry-at, e
 use Rattle.policy.specs.declared.Policy.{Policy}
 use Rattle.policy.specs.Questions.{firstNo, questions, queryInRange}
 use Rattle.policy.specs.Laws.{Answers, answers, answered-with, firstNo-zero}
+use Rattle.policy.specs.declared.Queries.{Queries}
 use Rattle.engine.specs.Calls.{refusedOr}
 use Rattle.engine.specs.Meaning.{AllYes}
 use Rattle.engine.specs.Laws.Refusals.{answered}
 use Rattle.format.specs.Bounds.{longestFile}
-use Rattle.policy.specs.declared.Queries.{Queries}
+use Rattle.format.specs.Entries.{zeroQuery}
 use Rattle.reader.specs.declared.Reading.{Reading}
 use Rattle.reader.specs.File.{readOf}
-use Rattle.format.specs.Entries.{zeroQuery}
 use Rattle.reader.specs.Cleared.{clearedReading}
 use Rattle.reader.specs.Claim.{AcceptedFile, DraftStates, States}
 use Rattle.reader.specs.Laws.Back.{file-short, reads-back}

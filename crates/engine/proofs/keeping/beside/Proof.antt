@@ -1,10 +1,10 @@
 -- `beside` gives what the search finds, or 0 where no rule has an unless entry.
 use mathlib.Core.Path.{sym}
+use Rattle.base.proofs.Tested.{tested-no}
 use Rattle.policy.specs.Laws.{accepted-range}
 use Rattle.engine.specs.Calls.{keepFor}
 use Rattle.engine.specs.Laws.Keep.{keep-zero}
 use Rattle.engine.specs.Laws.More.{no-unless, enough-more}
-use Rattle.base.proofs.Tested.{tested-no}
 use Rattle.engine.proofs.keeping.beside.Statement.{statement}
 use Rattle.engine.proofs.keeping.beside.Tie as tie
 

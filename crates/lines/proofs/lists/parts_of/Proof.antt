@@ -7,8 +7,8 @@ use borrow.Author.Needs.{needs}
 use denote.Ref.{now}
 use lib.ListN.{length, drop, length-drop}
 use Rattle.base.specs.Every.{every}
-use Rattle.format.specs.Format.{isNumber}
 use Rattle.base.specs.Lists.{filled}
+use Rattle.format.specs.Format.{isNumber}
 use Rattle.format.specs.Laws.Lists.{parts-some}
 use Rattle.lines.proofs.Bytes.{before-within}
 use Rattle.lines.proofs.Held.{none-held}

@@ -8,8 +8,8 @@ use denote.Ref.{now}
 use lib.ListN.{length, getD, drop, drop-of-length-le}
 use lib.Dec.{T}
 use Rattle.base.specs.Every.{every}
-use Rattle.lines.specs.declared.text.Spelt.the-variants.{Nothing, Number}
 use Rattle.format.specs.Format.{isDigit, spelt}
+use Rattle.lines.specs.declared.text.Spelt.the-variants.{Nothing, Number}
 use Rattle.lines.specs.Places.{numberOf}
 use Rattle.lines.proofs.Numbers
 use Rattle.lines.proofs.text.number.Statement.{statement}

@@ -8,11 +8,11 @@ use mathlib.Core.Bool.{Bool, not, _&&_}
 use native.Mathlib.Decide.{decLe}
 use native.Mathlib.Omega.{arith}
 use lib.Dec.{T, ltb, ltb→lt, nltb→le}
-use Rattle.mask.specs.Mask.{_⊆_}
 use Rattle.base.specs.Counted.{counted}
-use Rattle.mask.specs.Laws.{⊆-self, ⊆-join}
 use Rattle.base.specs.Laws.Counted.{counted-split, counted-none, counted-one}
 use Rattle.base.specs.Laws.Tests.{and-left, and-right}
+use Rattle.mask.specs.Mask.{_⊆_}
+use Rattle.mask.specs.Laws.{⊆-self, ⊆-join}
 use Rattle.mask.specs.Laws.Sperner.Chains.{chains}
 
 -- The sets x below N that the test takes: each stands at `place x` of a chain of k sets, its rest has only the n things to

@@ -4,8 +4,8 @@ use mathlib.Core.Path.{refl}
 use native.Mathlib.Omega.{arith}
 use borrow.Author.Needs.{needs}
 use Rattle.mask.specs.Laws.Packed.{minus}
-use Rattle.settle.specs.Words.{folded}
 use Rattle.policy.specs.Laws.{list-entry}
+use Rattle.settle.specs.Words.{folded}
 use Rattle.settle.proofs.Folding.{So, so-next, so-all}
 use Rattle.settle.proofs.adding.none_held.Statement.{statement}
 use Rattle.settle.proofs.adding.none_held.Tie as tie

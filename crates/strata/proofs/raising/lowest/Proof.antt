@@ -5,13 +5,13 @@ use native.Mathlib.Omega.{arith}
 use borrow.Author.Tests.{not-true, not-false}
 use lib.ListN.{replicate}
 use Rattle.base.specs.Laws.Tests.{passes}
+use Rattle.base.specs.Laws.Totals.{total}
 use Rattle.policy.specs.Record.{ruleOf, withLevels}
 use Rattle.policy.specs.Questions.{othersInRange}
 use Rattle.policy.specs.Laws.{RuleFits, rule-wider, InRange}
-use Rattle.strata.specs.Laws.Raised.{total}
 use Rattle.strata.specs.Laws.Levels.{others-range}
-use Rattle.strata.proofs.Rounds.{AtRound, AtTurn, round-first, turn-first, turn-raised, turn-kept, turn-refused}
-use Rattle.strata.proofs.Rounds.{fewer-rounds, rounds-end}
+use Rattle.strata.proofs.Rounds.{AtRound, AtTurn, round-first, turn-first, turn-raised, turn-kept, turn-refused, fewer-rounds}
+use Rattle.strata.proofs.Rounds.{rounds-end}
 use Rattle.strata.proofs.raising.lowest.Statement.{statement}
 use Rattle.strata.proofs.raising.lowest.Tie as tie
 

@@ -1,7 +1,7 @@
 -- `threshold::parts::one` meets its contract.
 use mathlib.Core.Path.{refl}
-use Rattle.format.specs.Format.{decisionsOf}
 use Rattle.base.specs.Lists.{filled}
+use Rattle.format.specs.Format.{decisionsOf}
 use Rattle.threshold.proofs.parts.one.Statement.{statement}
 use Rattle.threshold.proofs.parts.one.Tie as tie
 
