@@ -1,8 +1,7 @@
-// Reading one line of a file: one with a number, one with a kind, and in `lists` one with a list. For the reader alone.
-ghost use Prim.Native.Nat.{_-_, _^_, _≤_};
+// Reading one line of a file: one with a number, one with a kind, and in `lists` one with a list.
+ghost use Prim.Native.Nat.{_≤_, max};
 ghost use Rattle.format.specs.Format.{numberLine, kindLine};
 ghost use Rattle.lines.specs.Places.{Parsed};
-ghost use Rattle.policy.specs.Record.{mostActions};
 use policy::Kind;
 use text::Spelt;
 
@@ -28,9 +27,8 @@ pub struct KindAt {
 
 // A number from lo to hi, and lo where it is refused.
 pub fn number_line(s: &[u8], from: Place, key: &[u8], lo: u16, hi: u16) -> NumberAt
-    requires { ⌜ lo ≤ hi ⌝ }
     ensures { λ r. ⌜ Parsed (now (s .entry)) from (numberLine (now (key .entry)) lo hi) (r .place) (r .value) ⌝ }
-    ensures { λ r. ⌜ (lo ≤ r .value) × (r .value ≤ hi) ⌝ }
+    ensures { λ r. ⌜ (lo ≤ r .value) × (r .value ≤ max lo hi) ⌝ }
 {
     let line = text::line_at(s, from, key);
     let mut place = line.place;
@@ -53,15 +51,6 @@ pub fn number_line(s: &[u8], from: Place, key: &[u8], lo: u16, hi: u16) -> Numbe
     }
     let value = number as u16;
     NumberAt { place, value }
-}
-
-// A mask of m actions.
-pub fn mask_line(s: &[u8], from: Place, key: &[u8], m: u8) -> NumberAt
-    requires { ⌜ m ≤ mostActions ⌝ }
-    ensures { λ r. ⌜ Parsed (now (s .entry)) from (numberLine (now (key .entry)) 0 (2 ^ m - 1)) (r .place) (r .value) ⌝ }
-{
-    let top = (1u32 << m) - 1;
-    number_line(s, from, key, 0, top as u16)
 }
 
 // A kind, p or o.

@@ -1,4 +1,4 @@
--- `lines::lines::number_line` meets its contract.
+-- `number_line` meets its contract.
 use native.Mathlib.Omega.{arith}
 use borrow.Author.Needs.{needs}
 use Rattle.format.specs.Format.{numberLine}

@@ -8,8 +8,8 @@ use Rattle.base.specs.Lists.{filled}
 use Rattle.format.specs.Entries.{zeroRule, rule}
 use Rattle.lines.specs.Places.{ParsedTimes}
 use Rattle.lines.proofs.Steps.{next, ends, begins, turns, all-turns}
-use Rattle.entries.proofs.read_rules.Statement.{statement}
-use Rattle.entries.proofs.read_rules.Tie as tie
+use Rattle.reader.proofs.entries.read_rules.Statement.{statement}
+use Rattle.reader.proofs.entries.read_rules.Tie as tie
 
 abbrev Inv-loop : tie.InvT-loop
 Inv-loop s k n m array₀ place₀ i₀ _ _ _ _ i-end array place i = ParsedTimes s place₀ i (rule n m) place 256 zeroRule array × (i ≤ k)

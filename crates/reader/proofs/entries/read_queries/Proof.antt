@@ -7,8 +7,8 @@ use Rattle.base.specs.Lists.{filled}
 use Rattle.format.specs.Entries.{zeroQuery, query}
 use Rattle.lines.specs.Places.{ParsedTimes}
 use Rattle.lines.proofs.Steps.{next, ends, begins, turns, all-turns}
-use Rattle.entries.proofs.read_queries.Statement.{statement}
-use Rattle.entries.proofs.read_queries.Tie as tie
+use Rattle.reader.proofs.entries.read_queries.Statement.{statement}
+use Rattle.reader.proofs.entries.read_queries.Tie as tie
 
 abbrev Inv-loop : tie.InvT-loop
 Inv-loop s k n m array₀ place₀ i₀ _ _ i-end array place i = ParsedTimes s place₀ i (query n m) place 64 zeroQuery array × (i ≤ k)

@@ -9,8 +9,8 @@ use Rattle.policy.specs.Record.{noAction}
 use Rattle.format.specs.Entries.{action}
 use Rattle.lines.specs.Places.{ParsedTimes}
 use Rattle.lines.proofs.Steps.{next, ends, begins, turns, all-turns}
-use Rattle.entries.proofs.read_actions.Statement.{statement}
-use Rattle.entries.proofs.read_actions.Tie as tie
+use Rattle.reader.proofs.entries.read_actions.Statement.{statement}
+use Rattle.reader.proofs.entries.read_actions.Tie as tie
 
 abbrev Inv-loop : tie.InvT-loop
 Inv-loop s m array₀ place₀ i₀ _ _ i-end array place i = ParsedTimes s place₀ i (action m) place 16 noAction array × (i ≤ m)

@@ -1,10 +1,10 @@
--- `lines::lines::mask_line` meets its contract.
+-- `entries::mask_line` meets its contract: 1 shifted by m, less 1, is the highest mask.
 use native.Mathlib.Omega.{arith}
 use borrow.Author.Needs.{needs}
 use lib.Pow.{pow-pos, pow-mono}
 use Rattle.mask.proofs.Bits.{worth}
-use Rattle.lines.proofs.mask_line.Statement.{statement}
-use Rattle.lines.proofs.mask_line.Tie as tie
+use Rattle.reader.proofs.entries.mask_line.Statement.{statement}
+use Rattle.reader.proofs.entries.mask_line.Tie as tie
 
 sub-top : tie.Need-sub-top
 sub-top c = let a = c .before .before in rw (worth (a .args .m) 32 (omega (arith, a .pre))) (pow-pos (a .args .m))

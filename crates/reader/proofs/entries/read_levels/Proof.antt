@@ -8,8 +8,8 @@ use Rattle.format.specs.Text.{ascii}
 use Rattle.format.specs.Format.{numberLine}
 use Rattle.lines.specs.Places.{ParsedTimes}
 use Rattle.lines.proofs.Steps.{begins, turns, all-turns}
-use Rattle.entries.proofs.read_levels.Statement.{statement}
-use Rattle.entries.proofs.read_levels.Tie as tie
+use Rattle.reader.proofs.entries.read_levels.Statement.{statement}
+use Rattle.reader.proofs.entries.read_levels.Tie as tie
 
 abbrev Inv-loop : tie.InvT-loop
 Inv-loop s n array₀ place₀ i₀ _ i-end array place i = ParsedTimes s place₀ i (numberLine (ascii "level") 0 15) place 128 0 array × (i ≤ n)
