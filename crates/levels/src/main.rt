@@ -1,37 +1,38 @@
 // The program `levels`: reads a file from standard input whose levels may be wrong, and writes the lowest that fit its rules.
-ghost use Prim.Native.Nat.{_≤_};
 ghost use mathlib.Core.Path.{_≡_};
-ghost use lib.ListN.{length, take};
-ghost use Rattle.levels.specs.Printed.{levelsText};
-use base::smaller;
+ghost use lib.ListN.{length};
+ghost use Rattle.printing.specs.Texts.{longestLevels, levelsTexts};
+ghost use Rattle.printing.specs.Handing.{textAt};
 use format::MOST_BYTES;
-use policy::MOST_DECISIONS;
+use printing::LONGEST_LEVELS;
+use printing::Printed;
 
-// Puts the text for a file at the start of the buffer.
-fn put_found(buffer: &mut [u8], file: &[u8]) -> usize
-    requires { ⌜ length (now buffer) ≡ 4096 ⌝ }
-    ensures { λ r. ⌜ take r (now (buffer .exit)) ≡ levelsText (now (file .entry)) ⌝ }
-    ensures { λ r. ⌜ r ≤ 4096 ⌝ }
-    ensures { λ _. ⌜ length (now (buffer .exit)) ≡ 4096 ⌝ }
+// Writes text i of the file, and answers whether all of it was taken.
+fn write(text: &[u8], file: &[u8], i: usize) -> bool
+    requires { ⌜ now text ≡ textAt (levelsTexts (now file)) i ⌝ }
 {
-    let draft = reader::draft(file);
-    if draft.refusal != 0 {
-        return text::refusal(buffer, 0, draft.refusal);
+    io::write_all(1, text)
+}
+
+// Writes the texts of the file in turn until none is left, or one was not taken.
+fn print(file: &[u8], buffer: &mut [u8]) -> bool
+    requires { ⌜ length (now buffer) ≡ longestLevels ⌝ }
+{
+    let mut i = 0;
+    while let Printed::Length(end) = printing::levels(file, i, buffer) {
+        if !write(&buffer[..end], file, i) {
+            return false;
+        }
+        i += 1;
     }
-    let policy = draft.policy;
-    let found = engine::levels(policy);
-    if found.refusal != 0 {
-        return text::refusal(buffer, 0, found.refusal);
-    }
-    let level = found.level;
-    let count = smaller(policy.decisions as usize, MOST_DECISIONS);
-    text::lines(buffer, 0, b"level=", &level[..count])
+    true
 }
 
 fn main() {
     let mut input = [0u8; MOST_BYTES + 1];
-    let mut buffer = [0u8; 4096];
+    let mut buffer = [0u8; LONGEST_LEVELS];
     let n = io::read_full(0, &mut input);
-    let end = put_found(&mut buffer, &input[..n]);
-    io::write_all(1, &buffer[..end]);
+    if !print(&input[..n], &mut buffer) {
+        io::write_all(2, b"levels: the output could not be written\n");
+    }
 }

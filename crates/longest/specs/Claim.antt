@@ -15,7 +15,7 @@ use Rattle.engine.specs.declared.Listing.the-variants.{Refused, Listed}
 use Rattle.engine.specs.Calls.{slimSets, listOf}
 use Rattle.reader.specs.File.{readOf}
 use Rattle.threshold.specs.AtLeast.{There, decisionsTo, number, atLeast, eight, stated}
-use Rattle.longest.specs.Printed.{theFile}
+use Rattle.printing.specs.Texts.{longestText}
 
 pub record Longest : Type 0 where
   -- no query has more than 12,870 slim sets, nor more than there are sets of half the policy's actions
@@ -26,7 +26,7 @@ pub record Longest : Type 0 where
   pub listed : (p : Policy) (q : Query) → Accepted p q → (places : ℕ) → mostSlim ≤ places
       → listOf p q places ≡ Listed (length (slimSets p q))
   -- the file is accepted, and read as the policy and its one query
-  pub reads : readOf theFile ≡ stated
+  pub reads : readOf longestText ≡ stated
   -- the policy has 100 decisions, as many as are there, and 192 rules
   pub decisions : (atLeast .decisions ≡ 100) × (decisionsTo 16 ≡ 100)
   pub rules : atLeast .rules ≡ 192

@@ -1,4 +1,3 @@
--- The file that the program writes, and what is claimed of it and of every list; Laws proves the claim.
-pub mod Printed
+-- What is claimed of the file that the program writes, and of every list; Laws proves the claim.
 pub mod Claim
 pub mod Laws

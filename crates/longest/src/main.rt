@@ -1,30 +1,36 @@
 // The program `longest`: writes the file whose query has the most slim sets.
-ghost use Prim.Native.Nat.{_≤_};
 ghost use mathlib.Core.Path.{_≡_};
-ghost use lib.ListN.{length, take};
+ghost use lib.ListN.{length};
 ghost use Rattle.format.specs.Bounds.{longestFile};
-ghost use Rattle.longest.specs.Printed.{theFile};
+ghost use Rattle.printing.specs.Handing.{textAt};
+ghost use Rattle.printing.specs.Texts.{longestTexts};
 use format::LONGEST_FILE;
-use writer::Written;
+use printing::Printed;
 
-// Puts the file at the start of the buffer, and returns its length. The writer never refuses it.
-fn put_file(buffer: &mut [u8]) -> usize
-    requires { ⌜ length (now buffer) ≡ longestFile ⌝ }
-    ensures { λ r. ⌜ take r (now (buffer .exit)) ≡ theFile ⌝ }
-    ensures { λ r. ⌜ r ≤ longestFile ⌝ }
-    ensures { λ _. ⌜ length (now (buffer .exit)) ≡ longestFile ⌝ }
+// Writes text i, and answers whether all of it was taken.
+fn write(text: &[u8], i: usize) -> bool
+    requires { ⌜ now text ≡ textAt longestTexts i ⌝ }
 {
-    let policy = threshold::policy();
-    let queries = threshold::queries();
-    let written = writer::write(policy, queries, buffer);
-    match written {
-        Written::Refused(_) => 0,
-        Written::Length(n) => n,
+    io::write_all(1, text)
+}
+
+// Writes the texts in turn until none is left, or one was not taken.
+fn print(buffer: &mut [u8]) -> bool
+    requires { ⌜ length (now buffer) ≡ longestFile ⌝ }
+{
+    let mut i = 0;
+    while let Printed::Length(end) = printing::longest(i, buffer) {
+        if !write(&buffer[..end], i) {
+            return false;
+        }
+        i += 1;
     }
+    true
 }
 
 fn main() {
     let mut buffer = [0u8; LONGEST_FILE];
-    let end = put_file(&mut buffer);
-    io::write_all(1, &buffer[..end]);
+    if !print(&mut buffer) {
+        io::write_all(2, b"longest: the output could not be written\n");
+    }
 }

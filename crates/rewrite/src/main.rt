@@ -1,37 +1,39 @@
 // The program `rewrite`: reads a file from standard input, and writes the file that the writer makes of its record.
-ghost use Prim.Native.Nat.{_≤_};
 ghost use mathlib.Core.Path.{_≡_};
-ghost use lib.ListN.{length, take};
+ghost use lib.ListN.{length};
 ghost use Rattle.format.specs.Bounds.{longestFile};
-ghost use Rattle.rewrite.specs.Printed.{rewriteText};
+ghost use Rattle.printing.specs.Handing.{textAt};
+ghost use Rattle.printing.specs.Texts.{rewriteTexts};
 use format::LONGEST_FILE;
 use format::MOST_BYTES;
-use writer::Written;
+use printing::Printed;
 
-// Puts the text for a file at the start of the buffer. The reader asks questions 1 to 4, and the writer 5 and 6.
-fn put_text(buffer: &mut [u8], file: &[u8]) -> usize
-    requires { ⌜ length (now buffer) ≡ longestFile ⌝ }
-    ensures { λ r. ⌜ take r (now (buffer .exit)) ≡ rewriteText (now (file .entry)) ⌝ }
-    ensures { λ r. ⌜ r ≤ longestFile ⌝ }
-    ensures { λ _. ⌜ length (now (buffer .exit)) ≡ longestFile ⌝ }
+// Writes text i of the file, and answers whether all of it was taken.
+fn write(text: &[u8], file: &[u8], i: usize) -> bool
+    requires { ⌜ now text ≡ textAt (rewriteTexts (now file)) i ⌝ }
 {
-    let draft = reader::draft(file);
-    if draft.refusal != 0 {
-        return text::refusal(buffer, 0, draft.refusal);
+    io::write_all(1, text)
+}
+
+// Writes the texts of the file in turn until none is left, or one was not taken.
+fn print(file: &[u8], buffer: &mut [u8]) -> bool
+    requires { ⌜ length (now buffer) ≡ longestFile ⌝ }
+{
+    let mut i = 0;
+    while let Printed::Length(end) = printing::rewrite(file, i, buffer) {
+        if !write(&buffer[..end], file, i) {
+            return false;
+        }
+        i += 1;
     }
-    let policy = draft.policy;
-    let queries = draft.queries;
-    let written = writer::write(policy, queries, buffer);
-    match written {
-        Written::Refused(n) => text::refusal(buffer, 0, n),
-        Written::Length(n) => n,
-    }
+    true
 }
 
 fn main() {
     let mut input = [0u8; MOST_BYTES + 1];
     let mut buffer = [0u8; LONGEST_FILE];
     let n = io::read_full(0, &mut input);
-    let end = put_text(&mut buffer, &input[..n]);
-    io::write_all(1, &buffer[..end]);
+    if !print(&input[..n], &mut buffer) {
+        io::write_all(2, b"rewrite: the output could not be written\n");
+    }
 }

@@ -1,4 +1,4 @@
--- The record is accepted, so that the writer writes its file, which is read back as the same record.
+-- The record is accepted, so that its file is short and is read back as the same record.
 use Prim.Native.Nat.{ℕ, _≤_, _<_}
 use mathlib.Core.Bool.{Bool, true, _&&_}
 use mathlib.Core.Path.{_≡_, refl, _∙_}
@@ -23,10 +23,11 @@ use Rattle.threshold.specs.AtLeast.{decisionsTo, number, without, fewer, having
 use Rattle.threshold.specs.AtLeast.{stated}
 use Rattle.threshold.specs.Laws.Taken.{accepted}
 use Rattle.writer.specs.Claim.{AcceptedRecord}
-use Rattle.writer.specs.Writing.{queriesInRange, recordQuestions, writeQuestions}
-use Rattle.writer.specs.Laws.Room.{room}
+use Rattle.writer.specs.Writing.{queriesInRange, recordQuestions}
 use Rattle.writer.specs.Laws.Saved.{short, reads-written}
-use Rattle.longest.specs.Printed.{theFile}
+use Rattle.printing.specs.Handing.{textAt}
+use Rattle.printing.specs.Texts.{longestText, longestTexts}
+use Rattle.printing.specs.Laws.Fits.{only-fits}
 
 -- ---- the arrays are as long as their structs declare
 eights : Rule → Bool
@@ -68,10 +69,10 @@ record-accepted : AcceptedRecord atLeast (stated .queries)
 unfolding stated readingOf filled
 record-accepted = record { policy = sized; queries = refl; answers = answers }
 
--- so a buffer of 27,294 bytes or more gets the file
-pub never-refused : (places : ℕ) → longestFile ≤ places → AllYes (writeQuestions atLeast (stated .queries) places)
-never-refused places h =
-    room atLeast (stated .queries) places answers (omega (arith, short atLeast (stated .queries) record-accepted))
+-- so its file has at most 27,294 bytes
+pub longest-fits : (i : ℕ) → length (textAt longestTexts i) ≤ longestFile
+unfolding longestText
+longest-fits i = only-fits longestFile longestText i (short atLeast (stated .queries) record-accepted)
 
 -- zeros stand past each count
 clear : clearedReading atLeast (stated .queries .count) (stated .queries .at) ≡ stated
@@ -80,6 +81,6 @@ unfolding stated atLeast eight decisionsTo number without fewer having firstFor 
 clear = refl
 
 -- and the file is read so
-pub reads : readOf theFile ≡ stated
-unfolding theFile
+pub reads : readOf longestText ≡ stated
+unfolding longestText
 reads = reads-written atLeast (stated .queries) record-accepted ∙ clear

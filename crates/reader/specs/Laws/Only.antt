@@ -23,7 +23,7 @@ use Rattle.reader.specs.Laws.Files.{draft-of-accepted}
 use Rattle.reader.specs.Laws.Back.{draft-back}
 
 -- the entry at i of a list with f of each entry
-map-at : {A B : Type 0} (f : A → B) (d : A) (e : B) (l : List A) (i : ℕ) → i < length l → getD (map f l) i e ≡ f (getD l i d)
+pub map-at : {A B : Type 0} (f : A → B) (d : A) (e : B) (l : List A) (i : ℕ) → i < length l → getD (map f l) i e ≡ f (getD l i d)
 map-at f d e [] i h = absurd (omega arith)
 map-at f d e (x ∷ l) zero h = refl
 map-at f d e (x ∷ l) (suc i) h = map-at f d e l i (omega arith)

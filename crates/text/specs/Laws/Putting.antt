@@ -52,7 +52,8 @@ stands-part before at [] room = stands-none before at
 stands-part before at (b ∷ text) room = stands-within before at (b ∷ text) (omega arith)
 
 module _ {before text after : List ℕ} {at end : ℕ} (p : Puts before at text after end) where
-  part : Stands before at (fitting before at text) after end
+  -- as much of it as there is room for
+  pub part : Stands before at (fitting before at text) after end
   unfolding fitting
   part =
       let f = take (length before - at) text in

@@ -1,0 +1,4 @@
+-- Laws that the proofs of the functions cite.
+pub mod Read
+pub mod Found
+pub mod Rewritten

@@ -1,0 +1,64 @@
+-- The texts of `clear` for a file by what the reader returns.
+use Prim.Native.Nat.{ℕ, _≤_, _<_, min}
+use mathlib.Core.List.{List, [], _∷_, map}
+use mathlib.Core.Path.{_≡_, sym, _∙_, ap, subst}
+use native.Mathlib.Omega.{arith}
+use lib.ListN.{length, getD, take, length-map, length-take}
+use lib.Seq.{getD-take}
+use Rattle.engine.specs.Laws.Refusals.{answered, refused}
+use Rattle.format.specs.Entries.{zeroQuery}
+use Rattle.text.specs.Put.{Puts, refusedText}
+use Rattle.text.specs.Laws.Putting.{same-text}
+use Rattle.reader.specs.declared.Reading.{Reading}
+use Rattle.reader.specs.File.{readOf}
+use Rattle.reader.specs.Laws.Only.{map-at}
+use Rattle.results.specs.Printed.{resultText}
+use Rattle.printing.specs.declared.Printed.{Printed}
+use Rattle.printing.specs.declared.Printed.the-variants.{Length, Nothing}
+use Rattle.printing.specs.Texts.{readingTexts, clearTexts}
+use Rattle.printing.specs.Laws.Handed.{Promised, text-put, none-left, only-put, only-once}
+
+module _ (s : List ℕ) {r : Reading} (read : r ≡ readOf s) where
+  refused-texts : ¬ (r .refusal ≡ 0) → refusedText (r .refusal) ∷ [] ≡ clearTexts s
+  unfolding clearTexts readingTexts
+  refused-texts some = sym (refused (r .refusal) (λ n. refusedText n ∷ []) _ some) ∙ ap readingTexts read
+
+  query-texts : r .refusal ≡ 0 → map (resultText (r .policy)) (take (r .queries .count) (r .queries .at)) ≡ clearTexts s
+  unfolding clearTexts readingTexts
+  query-texts none = sym (answered (r .refusal) (λ n. refusedText n ∷ []) _ none) ∙ ap readingTexts read
+
+  module _ (i : ℕ) (before : List ℕ) where
+    -- what is promised of other texts that are these
+    promised : {texts : List (List ℕ)} → texts ≡ clearTexts s → (after : List ℕ) (p : Printed)
+        → Promised texts i before after p → Promised (clearTexts s) i before after p
+    promised e after p = subst (λ (t : List (List ℕ)). Promised t i before after p) e
+
+    -- the file is refused
+    pub refused-once : ¬ (r .refusal ≡ 0) → ¬ (i ≡ 0) → Promised (clearTexts s) i before before Nothing
+    refused-once some other = promised (refused-texts some) before Nothing (only-once (refusedText (r .refusal)) i before other)
+
+    pub refused-put : {after : List ℕ} {n : ℕ} → ¬ (r .refusal ≡ 0) → i ≡ 0 → Puts before 0 (refusedText (r .refusal)) after n
+        → Promised (clearTexts s) i before after (Length n)
+    refused-put {after} {n} some first put =
+        promised (refused-texts some) after (Length n) (only-put (refusedText (r .refusal)) i before first put)
+
+    -- or it has this many queries
+    module _ (none : r .refusal ≡ 0) (long : length (r .queries .at) ≡ 64) (end : ℕ) (held : end ≡ min (r .queries .count) 64) where
+      count : length (map (resultText (r .policy)) (take (r .queries .count) (r .queries .at))) ≡ end
+      count =
+          length-map (take (r .queries .count) (r .queries .at)) (resultText (r .policy))
+          ∙ omega (arith, length-take (r .queries .count) (r .queries .at))
+
+      pub queries-over : end ≤ i → Promised (clearTexts s) i before before Nothing
+      queries-over over = promised (query-texts none) before Nothing (none-left _ i before (omega (arith, count)))
+
+      pub query-put : {after : List ℕ} {n : ℕ} → i < end
+          → Puts before 0 (resultText (r .policy) (getD (r .queries .at) i zeroQuery)) after n
+          → Promised (clearTexts s) i before after (Length n)
+      query-put {after} {n} under put =
+          let queries = take (r .queries .count) (r .queries .at) in
+          let here = map-at (resultText (r .policy)) zeroQuery [] queries i
+          (omega (arith, length-take (r .queries .count) (r .queries .at))) in
+          let same = ap (resultText (r .policy)) (getD-take (r .queries .count) (r .queries .at) i zeroQuery (omega arith)) in
+          promised (query-texts none) after (Length n)
+          (text-put _ i before (omega (arith, count)) (same-text put (sym (here ∙ same))))

@@ -1,3 +1,0 @@
--- The text that the program writes; Laws says what it is.
-pub mod Printed
-pub mod Laws
