@@ -2,7 +2,7 @@
 use Prim.Native.Nat.{ℕ, _<_}
 use mathlib.Core.Bool.{false, not}
 use mathlib.Core.Logic.{inl, inr, ⊎-elim}
-use mathlib.Core.List.{List, [], _∷_, _++_, List·Memᴰ, List·Memᴰ·not-nil}
+use mathlib.Core.List.{List, List·Memᴰ, List·Memᴰ·not-nil}
 use mathlib.Core.Path.{_≡_, subst}
 use native.Mathlib.Decide.{ℕ-discrete}
 use lib.Dec.{T, T-not, not-T, eqb, eqb→eq}
@@ -12,9 +12,9 @@ use Rattle.mask.specs.Mask.{has, _⊆_}
 use Rattle.policy.specs.declared.Policy.{Policy}
 use Rattle.policy.specs.declared.Query.{Query}
 use Rattle.policy.specs.Questions.{Accepted}
-use Rattle.policy.specs.Record.{ruleOf, headOf, unlessOf}
+use Rattle.policy.specs.Record.{ruleOf, unlessOf}
 use Rattle.model.specs.World.{worldOf}
-use Rattle.model.specs.Derivation.{Steps, Derivable, DerivableBelow}
+use Rattle.model.specs.Derivation.{Derivation, Derivable}
 use Rattle.model.specs.Laws.Worlds.{reached-more, world-holds}
 use Rattle.keep.specs.Search.{someUnless}
 use Rattle.engine.specs.Sets.{Offered, Enough}
@@ -34,30 +34,22 @@ module _ (p : Policy) (none : NoUnless p) where
   no-entry : (k d : ℕ) → k < p .rules → List·Memᴰ d (unlessOf p k) → ⊥
   no-entry k d l m = List·Memᴰ·not-nil (subst (λ (n : ℕ). List·Memᴰ d (take n (ruleOf p k .unless .at))) (none k l) m)
 
-  -- so what may follow in a world may follow in a larger one, whatever has a derivation there
-  steps-more : (w v : ℕ) (A B : ℕ → Type 0) → w ⊆ v → (seen ks : List ℕ) → Steps p w A seen ks → Steps p v B seen ks
-  steps-more w v A B sub seen [] ts = tt
-  steps-more w v A B sub seen (k ∷ ks) ts = (
-    record {
-      exists = ts .0 .exists;
-      enabled = λ i t. sub i (ts .0 .enabled i t);
-      ifs = ts .0 .ifs;
-      unless = λ d m h. no-entry k d (ts .0 .exists) m;
-    },
-    steps-more w v A B sub (headOf p k ∷ seen) ks (ts .1),
-  )
+  -- so a derivation in a world is one in a larger world, whatever else has a derivation there
+  derivation-more : {w v : ℕ} {A B : ℕ → Type 0} {d : ℕ} {ks : List ℕ} → w ⊆ v → Derivation p w A d ks → Derivation p v B d ks
+  derivation-more sub t = record {
+    steps = λ before after k e. let a = t .steps before after k e in record {
+      exists = a .exists;
+      enabled = λ i h. sub i (a .enabled i h);
+      ifs = a .ifs;
+      unless = λ c m h. no-entry k c (a .exists) m;
+    };
+    ends = t .ends;
+    levels = t .levels;
+  }
 
   derivable-more : (w v : ℕ) → w ⊆ v → (d : ℕ) → Derivable p w d → Derivable p v d
   unfolding Derivable
-  derivable-more w v sub d (before, last, t) = (
-    before,
-    last,
-    record {
-      steps = steps-more w v (DerivableBelow p w 15) (DerivableBelow p v 15) sub [] (before ++ (last ∷ [])) (t .steps);
-      ends = t .ends;
-      levels = t .levels;
-    },
-  )
+  derivable-more w v sub d (ks, t) = (ks, derivation-more sub t)
 
 module _ (p : Policy) (q : Query) (ok : Accepted p q) where
   world-more : (s t : ℕ) → s ⊆ t → worldOf p (q .done) s ⊆ worldOf p (q .done) t

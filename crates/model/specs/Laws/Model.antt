@@ -1,25 +1,29 @@
 -- The decisions that have a derivation are the stratified model of the world, and the only one.
 use Prim.Native.Nat.{ℕ, zero, suc, _<_, _≤_}
 use mathlib.Core.Bool.{false}
-use mathlib.Core.List.{List, [], _∷_, _++_, List·Memᴰ·head, Memᴰ·append-right}
+use mathlib.Core.List.{List}
 use mathlib.Core.Logic.{⊎-elim, _↔_}
-use mathlib.Core.Path.{_≡_, refl, subst}
+use mathlib.Core.Path.{_≡_}
 use native.Mathlib.Nat.{eq-or-lt-of-le, le-refl, le-of-eq}
 use native.Mathlib.Omega.{arith}
 use lib.ListN.{getD, List·getD-eq-default}
 use Rattle.base.specs.Laws.Tests.{untrue, last-or-below}
-use Rattle.base.specs.Laws.All.{All, all-nil, all-cons}
 use Rattle.policy.specs.declared.Policy.{Policy}
 use Rattle.policy.specs.declared.Query.{Query}
 use Rattle.policy.specs.Questions.{Accepted}
 use Rattle.policy.specs.Record.{headOf, levelOf, withLevels}
-use Rattle.model.specs.Derivation.{Steps, Derivation, Derivable}
+use Rattle.model.specs.Derivation.{Applies, Derivable}
 use Rattle.model.specs.Fire.{State, holds, upTo}
-use Rattle.model.specs.Model.{Applies, Model, IsModel}
+use Rattle.model.specs.Model.{Model, IsModel}
 use Rattle.model.specs.Laws.Strata.{Stratified, stratified}
-use Rattle.model.specs.Laws.Derived.{unfolds}
+use Rattle.model.specs.Laws.Steps.{applies-too}
+use Rattle.model.specs.Laws.Derived.{unfolds, by-rules}
 use Rattle.model.specs.Laws.Invariant.{Good, lower-held}
 use Rattle.model.specs.Laws.Levels.{good-upTo}
+
+-- levels play no part in whether a rule applies
+levels-aside : {p : Policy} {f : List ℕ} {w : ℕ} {X M : ℕ → Type 0} {k : ℕ} → Applies p w X M k → Applies (withLevels p f) w X M k
+levels-aside a = record { exists = a .exists; enabled = a .enabled; ifs = a .ifs; unless = a .unless }
 
 module _ (p : Policy) (w : ℕ) (s : Stratified p) where
   -- the decision 128, which no rule gives, is wanted in vain: so every level is worked to its end
@@ -44,43 +48,26 @@ module _ (p : Policy) (w : ℕ) (s : Stratified p) where
       unless = λ d m. untrue (holds whole d) λ h. a .unless d m (good .sound d h);
     }))
 
-    -- along a derivation every head has one, and is in each set that the rules of a level ask for, unless its own is higher
+    -- and is in each set that the rules of a level ask for, unless its own level is higher
     module _ (n : ℕ) (X : ℕ → Type 0) (agrees : (d : ℕ) → getD f d 0 < n → X d ↔ Derivable p w d)
         (closed : (k : ℕ) → getD f (headOf p k) 0 ≡ n → Applies (withLevels p f) w X (Derivable p w) k → X (headOf p k)) where
       abbrev In : ℕ → Type 0
       In d = (getD f d 0 ≤ n → X d) × Derivable p w d
 
-      heads-in : (seen ks : List ℕ) → All In seen → Steps p w (Derivable p w) seen ks → All (λ k. In (headOf p k)) ks
-      heads-in seen [] hs ts = all-nil _
-      heads-in seen (k ∷ ks) hs ts = all-cons here (heads-in (headOf p k ∷ seen) ks (all-cons here hs) (ts .1))
+      head-in : (k : ℕ) → Applies p w In (Derivable p w) k → In (headOf p k)
+      head-in k a = (
+        λ h. ⊎-elim
+            (λ (e : getD f (headOf p k) 0 ≡ n). closed k e (applies-too (withLevels p f) w (levels-aside a)
+            (λ d m x. x .0 (omega (arith, fit .ifs k d (a .exists) m))) (λ d m x. x)))
+            (λ (l : getD f (headOf p k) 0 < n). agrees (headOf p k) l .1 derived) (eq-or-lt-of-le h),
+        derived,
+      )
         where
           derived : Derivable p w (headOf p k)
-          derived = derivable-closed k (record {
-            exists = ts .0 .exists;
-            enabled = ts .0 .enabled;
-            ifs = λ d m. hs d (ts .0 .ifs d m) .1;
-            unless = ts .0 .unless;
-          })
-
-          here : In (headOf p k)
-          here = (
-            λ h. ⊎-elim
-                (λ (e : getD f (headOf p k) 0 ≡ n). closed k e (record {
-                  exists = ts .0 .exists;
-                  enabled = ts .0 .enabled;
-                  ifs = λ d m. hs d (ts .0 .ifs d m) .0 (omega (arith, fit .ifs k d (ts .0 .exists) m));
-                  unless = ts .0 .unless;
-                }))
-                (λ (l : getD f (headOf p k) 0 < n). agrees (headOf p k) l .1 derived) (eq-or-lt-of-le h),
-            derived,
-          )
+          derived = derivable-closed k (applies-too (withLevels p f) w (levels-aside a) (λ d m x. x .1) (λ d m x. x))
 
       derivable-least : (d : ℕ) → getD f d 0 ≡ n → Derivable p w d → X d
-      derivable-least d e t = go (unfolds p w s d .0 t)
-        where
-          go : (before : List ℕ) × (last : ℕ) × Derivation p w (Derivable p w) d before last → X d
-          go (before, last, v) = subst In (v .ends) (heads-in [] (before ++ (last ∷ [])) (all-nil _)
-              (v .steps) last (Memᴰ·append-right before (List·Memᴰ·head refl))) .0 (le-of-eq e)
+      derivable-least d e t = let (ks, v) = unfolds p w s d .0 t in by-rules v In (λ k m. head-in k) .0 (le-of-eq e)
 
     derivable-model : Model (withLevels p f) w (Derivable p w)
     derivable-model = record { closed = derivable-closed; least = derivable-least }
@@ -88,12 +75,8 @@ module _ (p : Policy) (w : ℕ) (s : Stratified p) where
   -- a model is closed, at a level, under the rules that apply by another one that agrees with it at lower levels
   closed-by : (M N : ℕ → Type 0) → Model p w N → (n : ℕ) → ((d : ℕ) → levelOf p d < n → M d ↔ N d)
       → (k : ℕ) → levelOf p (headOf p k) ≡ n → Applies p w N M k → N (headOf p k)
-  closed-by M N model n agree k e a = model .closed k (record {
-    exists = a .exists;
-    enabled = a .enabled;
-    ifs = a .ifs;
-    unless = λ d m x. a .unless d m (agree d (omega (arith, s .unless k d (a .exists) m)) .1 x);
-  })
+  closed-by M N model n agree k e a = model .closed k
+      (applies-too p w a (λ d m x. x) (λ d m. agree d (omega (arith, s .unless k d (a .exists) m)) .1))
 
   -- two models that agree below a level agree at it
   agree-next : (M N : ℕ → Type 0) → Model p w M → Model p w N → (n : ℕ) → ((d : ℕ) → levelOf p d < n → M d ↔ N d)

@@ -18,8 +18,8 @@ use Rattle.mask.specs.Laws.{has-none, one-has, one-⊆}
 use Rattle.policy.specs.declared.Rule.{Rule}
 use Rattle.policy.specs.Record.{noRule, listed, rulesOf, ruleOf, headOf, levelOf}
 use Rattle.model.specs.World.{Enabled}
-use Rattle.model.specs.Derivation.{Derivable}
-use Rattle.model.specs.Model.{Applies, Model}
+use Rattle.model.specs.Derivation.{Applies, Derivable}
+use Rattle.model.specs.Model.{Model}
 use Rattle.model.specs.Laws.Model.{is-model}
 use Rattle.format.specs.Entries.{zeroRule, recordOf}
 use Rattle.format.specs.Laws.Lists.{listed-of}

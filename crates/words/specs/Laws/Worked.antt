@@ -16,14 +16,14 @@ use Rattle.mask.specs.Laws.Packed.{packed-lt, packed-bit, packed-only}
 use Rattle.policy.specs.declared.Policy.{Policy}
 use Rattle.policy.specs.declared.Query.{Query}
 use Rattle.policy.specs.Questions.{Accepted}
-use Rattle.policy.specs.Record.{ruleOf, headOf, levelOf}
+use Rattle.policy.specs.Record.{ruleOf, levelOf}
 use Rattle.policy.specs.Laws.{accepted-range}
 use Rattle.model.specs.World.{worldIn, worldOf}
 use Rattle.model.specs.Fire.{firedOf}
 use Rattle.model.specs.Clears.{firedFor, enough, clears}
 use Rattle.model.specs.Derivation.{Derivable}
 use Rattle.model.specs.Laws.{fired-derives, decides, unfolds}
-use Rattle.model.specs.Laws.Steps.{last-exists}
+use Rattle.model.specs.Laws.Derived.{by-rules}
 use Rattle.model.specs.Laws.Strata.{stratified}
 use Rattle.columns.specs.Sets.{setAt, isOffered, offeredOf, gathered, foursOf, neededOf}
 use Rattle.columns.specs.Laws.Needed.{needed-bit}
@@ -87,17 +87,15 @@ module _ (p : Policy) (q : Query) (ok : Accepted p q) (w : ℕ) (small : w ≤ 1
     -- only a decision of the policy has a derivation
     in-range : Derivable p world d → d < p .decisions
     in-range t =
-        let r = unfolds p world (stratified p q ok) d .0 t in
-        let head : headOf p (r .1) < p .decisions = accepted-range p q ok .rule (r .1)
-        (last-exists p world (Derivable p world) [] (r .0) (r .1) (r .2 .steps)) .head in
-        subst (λ (x : ℕ). x < p .decisions) (r .2 .ends) head
+        let (ks, v) = unfolds p world (stratified p q ok) d .0 t in
+        by-rules v (λ c. c < p .decisions) (λ k m a. accepted-range p q ok .rule k (a .exists) .head)
 
     -- with d as want, a set is enough exactly when d has a derivation in its world
     enough-there : T (enough p (asking q d) s) → Derivable p world d
     unfolding enough firedFor
     enough-there t =
         let r = fired-derives p world d (stratified p q ok) (λ e. T-not (eqb (length (firedOf p world d)) 0) t (rw e tt)) in
-        unfolds p world (stratified p q ok) d .1 (r .0, r .1, r .3)
+        unfolds p world (stratified p q ok) d .1 (firedOf p world d, r)
 
     enough-back : Derivable p world d → T (enough p (asking q d) s)
     unfolding enough firedFor
