@@ -1,15 +1,16 @@
 // The rules that fire in the world of a set, until the wanted decision is held. For the engine alone: it has asked the questions that
 // these functions require.
 ghost use mathlib.Core.Path.{_≡_};
-ghost use mathlib.Core.Bool.{cond};
+ghost use mathlib.Core.Bool.{cond, not};
 ghost use Prim.Native.Nat.{_<_};
 ghost use lib.ListN.{length, replicate};
+ghost use Rattle.base.specs.Every.{every};
 ghost use Rattle.base.specs.Lists.{filled};
 ghost use Rattle.policy.specs.Record.{mostDecisions, mostActions, listed};
 ghost use Rattle.policy.specs.Questions.{Accepted};
 ghost use Rattle.policy.specs.Laws.{ListFits, RuleFits, InRange};
 ghost use Rattle.model.specs.Clears.{firedFor};
-ghost use Rattle.model.specs.Fire.{allHeld, noneHeld, canFire, firedOf};
+ghost use Rattle.model.specs.Fire.{isHeld, canFire, firedOf};
 use policy::Decisions;
 use policy::MOST_DECISIONS;
 use policy::Policy;
@@ -25,7 +26,7 @@ pub struct FiredRules {
 // Every decision of the list is held.
 fn all_held(held: &[bool; MOST_DECISIONS], list: Decisions) -> bool
     requires { ⌜ ListFits mostDecisions list ⌝ }
-    ensures { λ r. ⌜ r ≡ allHeld (now (held .entry)) (listed list) ⌝ }
+    ensures { λ r. ⌜ r ≡ every (isHeld (now (held .entry))) (listed list) ⌝ }
 {
     let n = list.count as usize;
     let at = list.at;
@@ -41,7 +42,7 @@ fn all_held(held: &[bool; MOST_DECISIONS], list: Decisions) -> bool
 // No decision of the list is held.
 fn none_held(held: &[bool; MOST_DECISIONS], list: Decisions) -> bool
     requires { ⌜ ListFits mostDecisions list ⌝ }
-    ensures { λ r. ⌜ r ≡ noneHeld (now (held .entry)) (listed list) ⌝ }
+    ensures { λ r. ⌜ r ≡ every (λ d. not (isHeld (now (held .entry)) d)) (listed list) ⌝ }
 {
     let n = list.count as usize;
     let at = list.at;

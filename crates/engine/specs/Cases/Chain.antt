@@ -7,12 +7,13 @@ use mathlib.Core.Path.{_≡_, refl}
 use lib.Dec.{lit<}
 use Rattle.base.specs.Every.{every, everyBelow, someBelow}
 use Rattle.mask.specs.Laws.{disjoint-iff}
-use Rattle.mask.specs.Family.{takenWithin, minimal, lightest, lighter}
+use Rattle.mask.specs.Family.{minimal, lightest, lighter}
 use Rattle.policy.specs.Questions.{firstNo, questions, queryInRange, inRange, othersInRange, countsInRange, levelInRange, actionInRange}
 use Rattle.policy.specs.Questions.{ruleInRange, listInRange, listsRise, ruleRises, rises, levelsFit, ruleLevelsFit, levelsBelow}
 use Rattle.policy.specs.Questions.{weightsFit, outweighs, heavier, Accepted}
 use Rattle.policy.specs.Cases.{chain, ask}
-use Rattle.model.specs.World.{worldOf, worldIn, followed, alsoes, InWorld, start, follow, steps}
+use Rattle.model.specs.World.{worldOf, worldIn, followed, alsoes, InWorld, start, follow}
+use Rattle.model.specs.Laws.Chains.{steps}
 use Rattle.model.specs.Fire.{firedOf, canFire, fires, tried, pass, passes, upTo}
 use Rattle.weight.specs.Cost.{costOf, weighed}
 use Rattle.engine.specs.Sets.{Enough, Slim, Best}
@@ -33,7 +34,7 @@ record Tested : Type 0 where
 tested : Tested
 unfolding chain every everyBelow someBelow firstNo questions queryInRange inRange othersInRange countsInRange levelInRange actionInRange
     ruleInRange listInRange listsRise ruleRises rises levelsFit ruleLevelsFit levelsBelow weightsFit outweighs heavier Accepted
-    worldOf worldIn followed alsoes firedOf canFire fires tried pass passes upTo costOf weighed takenWithin minimal lightest lighter
+    worldOf worldIn followed alsoes firedOf canFire fires tried pass passes upTo costOf weighed minimal lightest lighter
     best clears enough firedFor slim
 tested = record {
   accepted = refl;

@@ -5,7 +5,7 @@ use mathlib.Core.Option.{none, some}
 use mathlib.Core.Path.{_≡_, refl}
 use lib.Count.{ones, onesIn}
 use Rattle.base.specs.Every.{every, everyBelow, someBelow}
-use Rattle.mask.specs.Family.{among, takenWithin, minimal, lightest, lighter}
+use Rattle.mask.specs.Family.{among, minimal, lightest, lighter}
 use Rattle.policy.specs.Questions.{firstNo, questions, queryInRange, inRange, othersInRange, countsInRange, levelInRange, actionInRange}
 use Rattle.policy.specs.Questions.{ruleInRange, listInRange, listsRise, ruleRises, rises, levelsFit, ruleLevelsFit, levelsBelow}
 use Rattle.policy.specs.Questions.{weightsFit, outweighs, heavier, Accepted}
@@ -31,7 +31,7 @@ pub run : Run
 unfolding sample every everyBelow someBelow firstNo questions queryInRange inRange othersInRange countsInRange levelInRange actionInRange
     ruleInRange listInRange listsRise ruleRises rises levelsFit ruleLevelsFit levelsBelow weightsFit outweighs heavier
     worldOf worldIn followed alsoes firedOf canFire fires
-    tried pass passes upTo costOf weighed among takenWithin minimal lightest lighter chooseOf answer refusedOr best clears
+    tried pass passes upTo costOf weighed among minimal lightest lighter chooseOf answer refusedOr best clears
     enough firedFor slimSets slim ones onesIn foundOr0 spoilt keepsOff keepOf keepFor
 run = record {
   first = refl;
@@ -67,7 +67,7 @@ pub tested : Tested
 unfolding sample every everyBelow someBelow firstNo questions queryInRange inRange othersInRange countsInRange levelInRange actionInRange
     ruleInRange listInRange listsRise ruleRises rises levelsFit ruleLevelsFit levelsBelow weightsFit outweighs heavier Accepted
     worldOf worldIn followed alsoes firedOf
-    canFire fires tried pass passes upTo costOf weighed takenWithin minimal lightest lighter best clears enough firedFor slim
+    canFire fires tried pass passes upTo costOf weighed minimal lightest lighter best clears enough firedFor slim
 tested = record {
   accepted = refl;
   a = refl;

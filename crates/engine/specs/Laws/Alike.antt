@@ -6,7 +6,7 @@ use mathlib.Core.Path.{_≡_, refl, _∙_, ap}
 use lib.ListN.{length}
 use Rattle.base.specs.Laws.Tests.{someBelow-same}
 use Rattle.mask.specs.Mask.{contains}
-use Rattle.mask.specs.Family.{among, takenWithin, minimal, lightest}
+use Rattle.mask.specs.Family.{among, minimal, lightest}
 use Rattle.mask.specs.Laws.Lightest.{lightest-same}
 use Rattle.mask.specs.Laws.Among.{among-same}
 use Rattle.policy.specs.declared.Policy.{Policy}
@@ -24,7 +24,7 @@ refused-same n (suc m) refuse a b e f = rw e
 
 -- families with the same tests have the same minimal sets
 minimal-same : (f g : ℕ → Bool) → ((s : ℕ) → f s ≡ g s) → (s : ℕ) → minimal f s ≡ minimal g s
-unfolding minimal takenWithin
+unfolding minimal
 minimal-same f g e s =
     rw (e s, someBelow-same s (λ t. contains s t && f t) (λ t. contains s t && g t) (λ t h. rw (e t)))
 

@@ -18,7 +18,8 @@ use Rattle.policy.specs.declared.Query.{Query}
 use Rattle.policy.specs.Questions.{firstNo, queryInRange, queryQuestions, Accepted}
 use Rattle.policy.specs.Laws.{accepted-range, firstNo-few}
 use Rattle.model.specs.World.{worldOf}
-use Rattle.model.specs.Fire.{holds, upTo, firedOf}
+use Rattle.model.specs.Fire.{upTo, firedOf}
+use Rattle.model.specs.Laws.Marks.{holds}
 use Rattle.model.specs.Laws.Strata.{stratified}
 use Rattle.model.specs.Laws.Levels.{good-upTo}
 use Rattle.engine.specs.declared.Firing.{Firing}

@@ -1,5 +1,5 @@
 -- Question 6 keeps chains of also masks short: an action in a mask weighs less, so no chain has more steps than there are actions.
-use Prim.Native.Nat.{ℕ, _+_, _≤_, _<_}
+use Prim.Native.Nat.{ℕ, suc, _+_, _≤_, _<_}
 use native.Mathlib.Nat.{lt-irrefl}
 use native.Mathlib.Omega.{arith}
 use lib.Dec.{ltb, ltb→lt, lt→ltb}
@@ -11,7 +11,12 @@ use Rattle.policy.specs.declared.Query.{Query}
 use Rattle.policy.specs.Record.{alsoOf, weightOf}
 use Rattle.policy.specs.Questions.{Accepted}
 use Rattle.policy.specs.Laws.{accepted, accepted-range, weights-fit}
-use Rattle.model.specs.World.{Reached, start, follow, steps}
+use Rattle.model.specs.World.{Reached, start, follow}
+
+-- the steps of the way by which an action is reached
+unfoldable pub steps : {p : Policy} {From : ℕ → Type 0} {i : ℕ} → Reached p From i → ℕ
+steps (start t) = 0
+steps (follow r h t) = suc (steps r)
 
 module _ (p : Policy) where
   -- how many actions weigh less than v

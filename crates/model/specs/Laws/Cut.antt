@@ -14,7 +14,8 @@ use Rattle.policy.specs.Questions.{inRange}
 use Rattle.policy.specs.Laws.{in-range}
 use Rattle.policy.specs.Laws.Cut.{listed-cut, level-cut, also-cut, rule-cut, head-cut}
 use Rattle.model.specs.World.{alsoes, followed, worldIn, worldOf}
-use Rattle.model.specs.Fire.{Marks, State, holds, canFire, fire, fires, tried, pass, passes, upTo, firedOf}
+use Rattle.model.specs.Fire.{Marks, State, canFire, fire, fires, tried, pass, passes, upTo, firedOf}
+use Rattle.model.specs.Laws.Marks.{holds}
 
 -- a rule can fire where its cut can
 can-fire-cut : (held : Marks) (w : ℕ) (r : Rule) → canFire held w (cutRule r) ≡ canFire held w r

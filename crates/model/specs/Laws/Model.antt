@@ -13,7 +13,8 @@ use Rattle.policy.specs.declared.Query.{Query}
 use Rattle.policy.specs.Questions.{Accepted}
 use Rattle.policy.specs.Record.{headOf, levelOf, withLevels}
 use Rattle.model.specs.Derivation.{Applies, Derivable}
-use Rattle.model.specs.Fire.{State, holds, upTo}
+use Rattle.model.specs.Fire.{State, upTo}
+use Rattle.model.specs.Laws.Marks.{holds}
 use Rattle.model.specs.Model.{Model, IsModel}
 use Rattle.model.specs.Laws.Strata.{Stratified, stratified}
 use Rattle.model.specs.Laws.Steps.{applies-too}

@@ -14,8 +14,8 @@ use Rattle.policy.specs.declared.Query.{Query}
 use Rattle.policy.specs.declared.Rule.{Rule}
 use Rattle.policy.specs.Record.{alsoOf}
 use Rattle.policy.specs.Questions.{Accepted}
-use Rattle.model.specs.World.{alsoes, followed, worldIn, worldOf, Reached, start, follow, steps, InWorld, Enabled}
-use Rattle.model.specs.Laws.Chains.{few-steps}
+use Rattle.model.specs.World.{alsoes, followed, worldIn, worldOf, Reached, start, follow, InWorld, Enabled}
+use Rattle.model.specs.Laws.Chains.{steps, few-steps}
 
 -- an action is in a join when it is in one of the two sets
 join-iff : (a b i : ℕ) → T (has (bitOr a b) i) ↔ (T (has a i) ⊎ T (has b i))

@@ -9,11 +9,12 @@ use lib.Dec.{T, T-not, ltb, ltb→lt}
 use lib.ListN.{getD}
 use Rattle.base.specs.Laws.Tests.{is-false, passes, someBelow-same}
 use Rattle.mask.specs.Mask.{has, contains}
-use Rattle.mask.specs.Family.{among, takenWithin, minimal, lightest}
+use Rattle.mask.specs.Family.{among, minimal, lightest}
 use Rattle.mask.specs.Laws.{has-none}
 use Rattle.mask.specs.Laws.Packed.{packed-bit}
 use Rattle.mask.specs.Laws.Lightest.{lightest-idle, lightest-same}
 use Rattle.mask.specs.Laws.Among.{among-idle, among-same}
+use Rattle.mask.specs.Laws.Minimal.{takenWithin}
 use Rattle.policy.specs.declared.Policy.{Policy}
 use Rattle.policy.specs.declared.Query.{Query}
 use Rattle.policy.specs.Questions.{Accepted}
@@ -60,7 +61,7 @@ module _ (p : Policy) (q : Query) where
       (λ t k. ap (λ (b : Bool). contains s t && b) (family-in t (omega arith))))
 
   slim-past : (s : ℕ) → 2 ^ p .actions ≤ s → minimal (family p q) s ≡ false
-  unfolding minimal family
+  unfolding minimal takenWithin family
   slim-past s h = ap (λ (b : Bool). (b && clears p q s) && not (takenWithin (family p q) s s))
       (is-false (ltb s (2 ^ p .actions)) (λ t. omega (arith, ltb→lt s (2 ^ p .actions) t)))
 
