@@ -23,19 +23,9 @@ use Rattle.words.specs.Laws.Alike.{model-alike}
 use Rattle.engine.specs.Calls.{answer, offerInRange, offerQuestions, firedFor, enough, clears, slimSets, best, listQuestions}
 use Rattle.engine.specs.Calls.{checkOf, judgeOf, fireOf, chooseOf, listOf, listAfter}
 use Rattle.engine.specs.Words.{wordQuestions, wordsOf}
+use Rattle.engine.specs.Same.{Ignored}
 use Rattle.engine.specs.Laws.Alike.{refused-same, slim-sets-alike, answer-alike}
 use Rattle.engine.specs.Laws.Refusals.{offer-accepted, list-accepted}
-
--- what every call returns is the same for both records
-pub record Ignored (p p′ : Policy) : Type 0 where
-  pub check : checkOf p ≡ checkOf p′
-  pub judge : (q : Query) (s : ℕ) → judgeOf p q s ≡ judgeOf p′ q s
-  pub fire : (q : Query) (s : ℕ) → fireOf p q s ≡ fireOf p′ q s
-  pub choose : (q : Query) → chooseOf p q ≡ chooseOf p′ q
-  pub list : (q : Query) (places : ℕ) → listOf p q places ≡ listOf p′ q places
-  pub after : (q : Query) (before : List ℕ) → listAfter p q before ≡ listAfter p′ q before
-  pub levels : foundLevels p ≡ foundLevels p′
-  pub words : (q : Query) (w : ℕ) → wordsOf p q w ≡ wordsOf p′ q w
 
 module _ (p : Policy) where
   -- the cost
@@ -141,24 +131,32 @@ module _ (p : Policy) where
   unfolding checkOf
   cut-same = record {
     check = asked-cut true;
-    judge = judge-cut;
-    fire = fire-cut;
-    choose = choose-cut;
-    list = count-cut;
-    after = after-cut;
     levels = levels-cut p;
-    words = words-cut;
+    answers = λ q. record {
+      judge = judge-cut q;
+      choose = choose-cut q;
+      list = count-cut q;
+      after = after-cut q;
+      words = words-cut q;
+    };
+    fire = fire-cut;
   }
 
--- and so any two that agree below their counts
-pub ignored : (p p′ : Policy) → Agree p p′ → Ignored p p′
-ignored p p′ e = let a = cut-same p in let b = cut-same p′ in record {
-  check = sym (a .check) ∙ ap checkOf e ∙ b .check;
-  judge = λ q s. sym (a .judge q s) ∙ ap (λ (r : Policy). judgeOf r q s) e ∙ b .judge q s;
-  fire = λ q s. sym (a .fire q s) ∙ ap (λ (r : Policy). fireOf r q s) e ∙ b .fire q s;
-  choose = λ q. sym (a .choose q) ∙ ap (λ (r : Policy). chooseOf r q) e ∙ b .choose q;
-  list = λ q places. sym (a .list q places) ∙ ap (λ (r : Policy). listOf r q places) e ∙ b .list q places;
-  after = λ q before. sym (a .after q before) ∙ ap (λ (r : Policy). listAfter r q before) e ∙ b .after q before;
-  levels = sym (a .levels) ∙ ap foundLevels e ∙ b .levels;
-  words = λ q w. sym (a .words q w) ∙ ap (λ (r : Policy). wordsOf r q w) e ∙ b .words q w;
-}
+-- and so any two that agree below their counts: both are answered as their cut, which is one
+module _ (p p′ : Policy) (e : Agree p p′) where
+  through : {A : Type 0} (f : Policy → A) → f (cut p) ≡ f p → f (cut p′) ≡ f p′ → f p ≡ f p′
+  through f a b = sym a ∙ ap f e ∙ b
+
+  pub ignored : Ignored p p′
+  ignored = let a = cut-same p in let b = cut-same p′ in record {
+    check = through checkOf (a .check) (b .check);
+    levels = through foundLevels (a .levels) (b .levels);
+    answers = λ q. let c = a .answers q in let d = b .answers q in record {
+      judge = λ s. through (λ r. judgeOf r q s) (c .judge s) (d .judge s);
+      choose = through (λ r. chooseOf r q) (c .choose) (d .choose);
+      list = λ places. through (λ r. listOf r q places) (c .list places) (d .list places);
+      after = λ before. through (λ r. listAfter r q before) (c .after before) (d .after before);
+      words = λ w. through (λ r. wordsOf r q w) (c .words w) (d .words w);
+    };
+    fire = λ q s. through (λ r. fireOf r q s) (a .fire q s) (b .fire q s);
+  }

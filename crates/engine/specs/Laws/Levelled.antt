@@ -2,7 +2,6 @@
 use Prim.Native.Nat.{ℕ}
 use mathlib.Core.Bool.{Bool, true, _&&_}
 use mathlib.Core.List.{List}
-use mathlib.Core.Logic.{_↔_}
 use mathlib.Core.Path.{_≡_, refl, ap}
 use lib.Dec.{T, leb}
 use Rattle.base.specs.Laws.Tests.{same, is-true, parts}
@@ -12,7 +11,6 @@ use Rattle.policy.specs.Record.{withLevels}
 use Rattle.policy.specs.Questions.{othersInRange, inRange, listsRise, levelsFit, weightsFit, queryInRange, questions, Accepted}
 use Rattle.policy.specs.Laws.{Answers, answers, answered-with, accepted, firstNo-zero}
 use Rattle.model.specs.World.{worldOf}
-use Rattle.model.specs.Derivation.{Derivable}
 use Rattle.model.specs.Laws.Model.{same-model}
 use Rattle.weight.specs.Cost.{costOf}
 use Rattle.strata.specs.declared.Levelling.{Levelling}
@@ -23,18 +21,10 @@ use Rattle.words.specs.Laws.Alike.{model-alike}
 use Rattle.engine.specs.Calls.{offerInRange, offerQuestions, listQuestions, enough, clears, slimSets, judgeOf, chooseOf, checkOf}
 use Rattle.engine.specs.Calls.{listOf, listAfter}
 use Rattle.engine.specs.Words.{wordQuestions, wordsOf}
+use Rattle.engine.specs.Same.{SameAnswers}
 use Rattle.engine.specs.Laws.Alike.{slim-sets-alike, answer-alike}
 use Rattle.engine.specs.Laws.Decide.{enough-derivable}
 use Rattle.engine.specs.Laws.Words.{asking-accepted}
-
--- two policies answer a query alike; Fire may show other rules
-pub record SameAnswers (p p′ : Policy) (q : Query) : Type 0 where
-  pub derivable : (w d : ℕ) → Derivable p w d ↔ Derivable p′ w d
-  pub judge : (s : ℕ) → judgeOf p q s ≡ judgeOf p′ q s
-  pub choose : chooseOf p q ≡ chooseOf p′ q
-  pub list : (places : ℕ) → listOf p q places ≡ listOf p′ q places
-  pub after : (before : List ℕ) → listAfter p q before ≡ listAfter p′ q before
-  pub words : (w : ℕ) → wordsOf p q w ≡ wordsOf p′ q w
 
 -- the questions of accepted policies are answered alike
 questions-same : {p p′ : Policy} {a b : Bool} → Answers p a → Answers p′ b → (rest : Bool) → questions p rest ≡ questions p′ rest
@@ -105,7 +95,6 @@ module _ (p : Policy) (level : List ℕ) (q : Query) (ok : Accepted p q) (fit : 
   pub same-answers : SameAnswers p (withLevels p level) q
   unfolding p′
   same-answers = record {
-    derivable = same-model p level q ok fit;
     judge = judge-same p level q ok fit;
     choose = choose-same p level q ok fit;
     list = list-same p level q ok fit;
