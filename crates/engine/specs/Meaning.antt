@@ -1,12 +1,14 @@
 -- What each case of an answer means, in document 01's terms: the calls promise it of what they return.
-use Prim.Native.Nat.{ℕ}
+use Prim.Native.Nat.{ℕ, _≤_, _<_}
 use mathlib.Core.List.{List, _++_}
 use mathlib.Core.Logic.{_↔_, _≢_}
 use mathlib.Core.Path.{_≡_}
 use lib.Dec.{T}
-use lib.ListN.{length, drop}
+use lib.ListN.{length, getD, drop}
 use Rattle.policy.specs.declared.Policy.{Policy}
 use Rattle.policy.specs.declared.Query.{Query}
+use Rattle.policy.specs.declared.Queries.{Queries}
+use Rattle.policy.specs.Record.{mostQueries, zeroQuery}
 use Rattle.policy.specs.Questions.{Question, firstNo, queryQuestions, Accepted}
 use Rattle.weight.specs.Cost.{costOf}
 use Rattle.engine.specs.declared.Verdict.{Verdict}
@@ -16,7 +18,7 @@ use Rattle.engine.specs.declared.Answer.the-variants.{Refused as choose-
 use Rattle.engine.specs.declared.Listing.{Listing}
 use Rattle.engine.specs.declared.Listing.the-variants.{Refused as list-refused, Listed}
 use Rattle.engine.specs.Sets.{Enough, Best, BestKeep, Lists}
-use Rattle.engine.specs.Calls.{offerQuestions, listQuestions, slimSets}
+use Rattle.engine.specs.Calls.{checkOf, offerQuestions, listQuestions, slimSets}
 
 -- n is the number of the first question answered no
 abbrev pub Refuses : List Question → ℕ → Type 0
@@ -25,6 +27,11 @@ Refuses qs n = (firstNo qs ≡ n) × (n ≢ 0)
 -- each question is answered yes
 abbrev pub AllYes : List Question → Type 0
 AllYes qs = firstNo qs ≡ 0
+
+-- what is said of a policy with its queries: 0 exactly where it is accepted by itself and with each of at most 64 queries
+abbrev pub Checks : Policy → Queries → ℕ → Type 0
+Checks p qs n =
+    (n ≡ 0) ↔ ((checkOf p ≡ 0) × (qs .count ≤ mostQueries) × ((i : ℕ) → i < qs .count → Accepted p (getD (qs .at) i zeroQuery)))
 
 module _ (p : Policy) (q : Query) where
   -- there are n slim sets, and `slimSets` lists them

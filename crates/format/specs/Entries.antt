@@ -8,16 +8,14 @@ use Rattle.policy.specs.declared.Rule.{Rule}
 use Rattle.policy.specs.declared.Query.{Query}
 use Rattle.policy.specs.declared.Action.{Action}
 use Rattle.policy.specs.Record.{noAction}
+pub use Rattle.policy.specs.Record.{zeroQuery}
 use Rattle.format.specs.Text.{ascii}
 use Rattle.format.specs.Parser.{Parser, _>>=_, _>>_, pure, times}
 use Rattle.format.specs.Format.{decisionsOf, numberLine, kindLine, listLine}
 
--- what stands past the counts of rules and queries
+-- what stands past the count of rules
 unfoldable pub zeroRule : Rule
 zeroRule = record { head = 0; needs = 0; ifs = decisionsOf []; unless = decisionsOf [] }
-
-abbrev pub zeroQuery : Query
-zeroQuery = record { want = 0; done = 0 }
 
 -- three lines of an action, where there are m actions
 unfoldable pub action : ℕ → Parser Action

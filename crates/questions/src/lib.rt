@@ -1,14 +1,16 @@
-// Questions 3 to 6 put to a whole policy.
+// Questions 3 to 6 put to a whole policy, and question 3 to its queries.
 ghost use mathlib.Core.Path.{_≡_};
 ghost use Rattle.base.specs.Every.{every};
 ghost use Rattle.policy.specs.Record.{rulesOf};
 ghost use Rattle.policy.specs.Questions.{countsInRange, ruleInRange, othersInRange, inRange};
-ghost use Rattle.policy.specs.Questions.{listsRise, levelsFit, weightsFit, questions, firstNo};
+ghost use Rattle.policy.specs.Questions.{queriesInRange, listsRise, levelsFit, weightsFit, questions, firstNo};
 use base::smaller;
 use policy::MOST_ACTIONS;
 use policy::MOST_DECISIONS;
+use policy::MOST_QUERIES;
 use policy::MOST_RULES;
 use policy::Policy;
+use policy::Queries;
 
 mod actions;
 mod levels;
@@ -64,6 +66,28 @@ pub fn in_range(policy: Policy) -> bool
 {
     let level = policy.level;
     others_in_range(policy) && levels::in_range(level, policy.decisions)
+}
+
+// Question 3 of the policy's queries: are they at most 64, and each in range?
+pub fn queries_in_range(policy: Policy, queries: Queries) -> bool
+    ensures { λ r. ⌜ r ≡ queriesInRange policy queries ⌝ }
+{
+    let count = queries.count as usize;
+    if count > MOST_QUERIES {
+        return false;
+    }
+    let decisions = policy.decisions;
+    let actions = policy.actions;
+    let query = queries.at;
+    let mut i = 0;
+    while i < count {
+        let one = query[i];
+        if !policy::query_in_range(one, decisions, actions) {
+            return false;
+        }
+        i += 1;
+    }
+    true
 }
 
 // Question 4: does each list rise strictly?

@@ -1,14 +1,12 @@
 -- What `draft` answers, from what its parts read; and what `read` answers, from the draft.
 use Prim.Native.Nat.{ℕ, _≤_, _<_}
 use mathlib.Core.Path.{_≡_, refl, sym, ap, subst, _∙_}
-use mathlib.Core.Bool.{true}
-use mathlib.Core.List.{List}
+use mathlib.Core.List.{List, []}
 use lib.Dec.{leb}
 use lib.ListN.{length, drop-of-length-le}
-use Rattle.base.specs.Laws.Tests.{passes, and-make}
-use Rattle.policy.specs.Questions.{questions, inRange, levelsFit, weightsFit}
-use Rattle.policy.specs.Laws.{answers, firstNo-yes}
-use Rattle.engine.specs.Calls.{checkOf}
+use Rattle.policy.specs.Questions.{questions, queriesInRange, levelsFit, weightsFit}
+use Rattle.policy.specs.Laws.{answers}
+use Rattle.engine.specs.Calls.{checkRecordOf}
 use Rattle.format.specs.Bounds.{mostBytes}
 use Rattle.format.specs.Parser.{Parser, _>>_, pure, ask, end}
 use Rattle.lines.specs.declared.Place.{Place}
@@ -20,7 +18,7 @@ use Rattle.reader.specs.declared.Reading.{Reading}
 use Rattle.reader.specs.File.{refusedReading, lines, draft, handed, draftOf, readOf}
 use Rattle.reader.specs.Claim.{DraftStates}
 use Rattle.reader.specs.Laws.Files.{number, read-refused, read-passed, read-denied}
-use Rattle.reader.specs.Laws.States.{draft-states}
+use Rattle.reader.specs.Laws.States.{draft-states, draft-questions}
 
 -- question 1, then the draft
 abbrev pub input : List ℕ → Parser Reading
@@ -52,17 +50,17 @@ module _ (s : List ℕ) {r : Reading} (h : r ≡ draftOf s) where
 
   module _ (z : r .refusal ≡ 0) where
     -- the engine's check finds nothing against it but by questions 5 and 6
-    check-is : checkOf (r .policy) ≡ number (levelsFit (r .policy)) (weightsFit (r .policy))
-    unfolding checkOf questions
+    check-is : checkRecordOf (r .policy) (r .queries) ≡ number (levelsFit (r .policy)) (weightsFit (r .policy))
+    unfolding checkRecordOf questions
     check-is =
         let zero = sym (ap (λ (x : Reading). x .refusal) h) ∙ z in
-        let stated = subst (DraftStates s) (sym h) (draft-states s zero) in
-        firstNo-yes _ _ (and-make (inRange (r .policy)) true (passes _ (stated .range)) tt) ∙ firstNo-yes _ _ (passes _ (stated .rise))
+        draft-questions (subst (DraftStates s) (sym h) (draft-states s zero)) []
 
-    pub check-refuses : ¬ (checkOf (r .policy) ≡ 0) → refusedReading (checkOf (r .policy)) ≡ readOf s
-    check-refuses n = rw check-is (sym (read-denied s r (sym h) z (λ e. n (check-is ∙ e))))
+    pub check-refuses : {n : ℕ} → n ≡ checkRecordOf (r .policy) (r .queries) → ¬ (n ≡ 0) → refusedReading n ≡ readOf s
+    check-refuses e ne = rw (e ∙ check-is) (sym (read-denied s r (sym h) z (λ f. ne (e ∙ check-is ∙ f))))
 
-    pub check-passes : checkOf (r .policy) ≡ 0 → r ≡ readOf s
-    unfolding checkOf
-    check-passes e =
-        let known = answers (r .policy) true e in sym (read-passed s r (sym h) z (known .levels) (known .weights))
+    pub check-passes : {n : ℕ} → n ≡ checkRecordOf (r .policy) (r .queries) → n ≡ 0 → r ≡ readOf s
+    unfolding checkRecordOf
+    check-passes e f =
+        let known = answers (r .policy) (queriesInRange (r .policy) (r .queries)) (sym e ∙ f) in
+        sym (read-passed s r (sym h) z (known .levels) (known .weights))

@@ -6,7 +6,7 @@ use denote.Shadow.{shadow}
 use lib.ListN.{length, drop}
 use mir.Val.{Val}
 use Rattle.policy.specs.declared.Policy.{Policy}
-use Rattle.policy.specs.Questions.{firstNo}
+use Rattle.policy.specs.Questions.{firstNo, queriesInRange, recordQuestions}
 use Rattle.policy.specs.Laws.{answers, in-range}
 use Rattle.policy.proofs.Policy as policy
 use Rattle.policy.proofs.Owned.{policy-owned, queries-owned}
@@ -16,7 +16,7 @@ use Rattle.engine.specs.Meaning.{AllYes}
 use Rattle.engine.specs.Laws.Refusals.{refused}
 use Rattle.writer.specs.declared.Written.{Written}
 use Rattle.writer.specs.declared.Written.the-variants.{Refused, Length}
-use Rattle.writer.specs.Writing.{queriesInRange, recordQuestions, fileText, writeQuestions, writeOf, writeAfter, Writes}
+use Rattle.writer.specs.Writing.{fileText, writeQuestions, writeOf, writeAfter, Writes}
 use Rattle.writer.specs.Claim.{AcceptedRecord}
 use Rattle.writer.specs.Laws.Saved.{length-written, file-written, write-means}
 

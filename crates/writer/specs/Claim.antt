@@ -6,12 +6,13 @@ use lib.ListN.{length, take, drop}
 use Rattle.policy.specs.declared.Policy.{Policy}
 use Rattle.policy.specs.Record.{Agree, Sized}
 use Rattle.policy.specs.declared.Queries.{Queries}
+use Rattle.policy.specs.Questions.{recordQuestions}
 use Rattle.engine.specs.Meaning.{AllYes}
 use Rattle.format.specs.Bounds.{longestFile}
 use Rattle.reader.specs.File.{readOf}
 use Rattle.reader.specs.Claim.{AcceptedFile}
 use Rattle.writer.specs.declared.Written.the-variants.{Length}
-use Rattle.writer.specs.Writing.{recordQuestions, fileText, writeOf, writeAfter, Writes}
+use Rattle.writer.specs.Writing.{fileText, writeOf, writeAfter, Writes}
 
 -- a policy and its queries that a program holds, in arrays as long as their structs declare, and accepted
 pub record AcceptedRecord (p : Policy) (qs : Queries) : Type 0 where

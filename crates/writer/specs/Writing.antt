@@ -1,13 +1,11 @@
 -- What the writer returns, and what the lent buffer holds afterwards.
 use Prim.Native.Nat.{ℕ}
-use mathlib.Core.Bool.{Bool, _&&_}
 use mathlib.Core.List.{List, [], _∷_, _++_}
 use mathlib.Core.Path.{_≡_}
 use lib.Dec.{leb}
 use lib.ListN.{length, take, drop}
-use Rattle.base.specs.Every.{every}
 use Rattle.policy.specs.declared.Policy.{Policy}
-use Rattle.policy.specs.Questions.{Question, firstNo, questions, queryInRange}
+use Rattle.policy.specs.Questions.{Question, firstNo, recordQuestions}
 use Rattle.policy.specs.declared.Queries.{Queries}
 use Rattle.engine.specs.Calls.{refusedOr}
 use Rattle.engine.specs.Meaning.{Refuses, AllYes}
@@ -18,24 +16,13 @@ use Rattle.writer.specs.declared.Written.{Written}
 use Rattle.writer.specs.declared.Written.the-variants.{Refused, Length}
 
 module _ (p : Policy) (qs : Queries) where
-  -- question 3 to the queries: there are at most 64, and each is in range
-  unfoldable pub queriesInRange : Bool
-  queriesInRange = leb (qs .count) 64 && every (queryInRange p) (take (qs .count) (qs .at))
-
-  -- questions 3 to 6 to the policy with each query
-  abbrev pub recordQuestions : List Question
-  recordQuestions = questions p queriesInRange
-
   -- the file that states them
   abbrev pub fileText : List ℕ
   fileText = fileOf p (qs .count) (qs .at)
 
-  -- and then 10: has a buffer of so many bytes room for the file?
-  abbrev pub roomQuestion : ℕ → Question
-  roomQuestion places = record { number = 10; yes = leb (length fileText) places }
-
+  -- questions 3 to 6 to the policy with its queries, and then 10: has a buffer of so many bytes room for the file?
   unfoldable pub writeQuestions : ℕ → List Question
-  writeQuestions places = recordQuestions ++ (roomQuestion places ∷ [])
+  writeQuestions places = recordQuestions p qs ++ (record { number = 10; yes = leb (length fileText) places } ∷ [])
 
   unfoldable pub writeOf : ℕ → Written
   writeOf places = refusedOr (firstNo (writeQuestions places)) Refused (Length (length fileText))

@@ -1,23 +1,58 @@
 -- What the calls return means what document 01 says of it.
-use Prim.Native.Nat.{ℕ, zero, suc}
+use Prim.Native.Nat.{ℕ, zero, suc, _^_}
+use mathlib.Core.Bool.{true}
 use mathlib.Core.List.{List, _++_}
 use mathlib.Core.Option.{Option, none, some}
 use mathlib.Core.Path.{_≡_, refl}
 use native.Mathlib.Omega.{arith}
-use lib.ListN.{length, drop}
+use lib.Dec.{T, leb, leb→le, le→leb, lt→ltb}
+use lib.ListN.{length, take, drop}
+use lib.Pow.{pow-pos}
+use Rattle.base.specs.Every.{every}
+use Rattle.base.specs.Laws.Tests.{and-make, and-left, and-right, entry-or, entries-make}
+use Rattle.mask.specs.Mask.{isMask}
 use Rattle.policy.specs.declared.Policy.{Policy}
 use Rattle.policy.specs.declared.Query.{Query}
-use Rattle.policy.specs.Questions.{firstNo, queryQuestions, Accepted}
+use Rattle.policy.specs.declared.Queries.{Queries}
+use Rattle.policy.specs.Record.{zeroQuery}
+use Rattle.policy.specs.Questions.{firstNo, questions, isDecision, inRange, queryInRange, queriesInRange, queryQuestions, Accepted}
+use Rattle.policy.specs.Questions.{recordQuestions}
+use Rattle.policy.specs.Laws.{answers, answered-with, accepted, firstNo-zero, in-range}
 use Rattle.weight.specs.Cost.{costOf}
 use Rattle.engine.specs.declared.Verdict.the-variants.{Refused as judge-refused, Judged}
 use Rattle.engine.specs.declared.Answer.the-variants.{Refused as choose-refused}
 use Rattle.engine.specs.declared.Listing.the-variants.{Refused as list-refused, Listed}
 use Rattle.engine.specs.Calls.{refusedOr, offerQuestions, listQuestions, enough, slimSets, best, answer, judgeOf, chooseOf, listOf}
-use Rattle.engine.specs.Calls.{listAfter}
-use Rattle.engine.specs.Meaning.{Judges, Chooses, ListsSlim}
+use Rattle.engine.specs.Calls.{listAfter, checkOf, checkRecordOf}
+use Rattle.engine.specs.Meaning.{Checks, Judges, Chooses, ListsSlim}
 use Rattle.engine.specs.Laws.Refusals.{offer-accepted, list-accepted}
 use Rattle.engine.specs.Laws.Decide.{enough-iff, best-found, none-found, lists}
 use Rattle.engine.specs.Laws.Keep.{keep-best}
+
+module _ (p : Policy) (qs : Queries) where
+  -- the query of zeros is in range of every policy that is
+  zero-fits : T (inRange p) → T (queryInRange p zeroQuery)
+  unfolding queryInRange
+  zero-fits t = and-make (isDecision (p .decisions) 0) (isMask (p .actions) 0)
+      (lt→ltb 0 (p .decisions) (in-range p t .some-decision)) (lt→ltb 0 (2 ^ p .actions) (pow-pos (p .actions)))
+
+  pub record-means : Checks p qs (checkRecordOf p qs)
+  unfolding checkOf checkRecordOf queriesInRange Accepted
+  record-means =
+      let few = leb (qs .count) 64 in
+      let fit = every (queryInRange p) (take (qs .count) (qs .at)) in (
+        λ e.
+            let known = answers p (queriesInRange p qs) e in
+            let each = entry-or (queryInRange p) zeroQuery (zero-fits (known .range)) (qs .count) (qs .at) (and-right few fit (known .given)) in (
+              firstNo-zero (questions p true) (answered-with known true tt),
+              leb→le (qs .count) 64 (and-left few fit (known .given)),
+              λ i h. firstNo-zero (queryQuestions p _) (answered-with known (queryInRange p _) (each i h)),
+            ),
+        λ h.
+            let each = entries-make (queryInRange p) zeroQuery (qs .count) (qs .at) (λ i less. accepted p _ (h .2 i less) .given) in
+            firstNo-zero (recordQuestions p qs) (answered-with (answers p true (h .0)) (queriesInRange p qs)
+            (and-make few fit (le→leb (qs .count) 64 (h .1)) each)),
+      )
 
 module _ (p : Policy) (q : Query) where
   pub judge-means : (s : ℕ) → Judges p q s (judgeOf p q s)

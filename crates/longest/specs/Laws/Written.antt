@@ -9,7 +9,7 @@ use Rattle.base.specs.Every.{every}
 use Rattle.base.specs.Laws.Tests.{and-make, and-left, and-right, entry-at}
 use Rattle.base.specs.Lists.{filled}
 use Rattle.policy.specs.declared.Rule.{Rule}
-use Rattle.policy.specs.Questions.{queryInRange}
+use Rattle.policy.specs.Questions.{queryInRange, queriesInRange, recordQuestions}
 use Rattle.policy.specs.Laws.{Answers, firstNo-zero, answered-with, accepted as query-accepted}
 use Rattle.policy.specs.Record.{noRule, ruleOf, Eights, Sized}
 use Rattle.engine.specs.Meaning.{AllYes}
@@ -23,7 +23,6 @@ use Rattle.threshold.specs.AtLeast.{decisionsTo, number, without, fewer, having
 use Rattle.threshold.specs.AtLeast.{stated}
 use Rattle.threshold.specs.Laws.Taken.{accepted}
 use Rattle.writer.specs.Claim.{AcceptedRecord}
-use Rattle.writer.specs.Writing.{queriesInRange, recordQuestions}
 use Rattle.writer.specs.Laws.Saved.{short, reads-written}
 use Rattle.printing.specs.Handing.{textAt}
 use Rattle.printing.specs.Texts.{longestText, longestTexts}

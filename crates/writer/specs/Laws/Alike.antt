@@ -7,13 +7,13 @@ use lib.Seq.{take-take}
 use Rattle.policy.specs.declared.Policy.{Policy}
 use Rattle.policy.specs.declared.Rule.{Rule}
 use Rattle.policy.specs.Record.{cutRule, cut, Agree, rulesOf}
-use Rattle.policy.specs.Questions.{firstNo, queryInRange}
+use Rattle.policy.specs.Questions.{firstNo, queryInRange, queriesInRange}
 use Rattle.policy.specs.Laws.Cut.{listed-cut, levels-cut, actions-cut, rules-cut, questions-cut}
 use Rattle.policy.specs.declared.Queries.{Queries}
 use Rattle.engine.specs.Laws.Alike.{refused-same}
 use Rattle.format.specs.Written.{ruleText, entriesText, fileOf}
 use Rattle.format.specs.Laws.Stated.{texts-same}
-use Rattle.writer.specs.Writing.{queriesInRange, fileText, writeQuestions, writeOf, writeAfter}
+use Rattle.writer.specs.Writing.{fileText, writeQuestions, writeOf, writeAfter}
 use Rattle.writer.specs.Claim.{cutQueries, AgreeQueries, SameFile}
 
 rule-text-cut : (r : Rule) → ruleText (cutRule r) ≡ ruleText r

@@ -4,13 +4,12 @@ use mathlib.Core.Bool.{true}
 use mathlib.Core.List.{List, _++_}
 use mathlib.Core.Path.{_≡_, refl, sym, ap, _∙_}
 use native.Mathlib.Omega.{arith}
-use lib.Dec.{T, leb, leb→le, le→leb}
-use lib.ListN.{length, getD, take, drop}
+use lib.Dec.{leb→le}
+use lib.ListN.{length, getD, drop}
 use lib.Seq.{take-at, drop-at}
-use Rattle.base.specs.Every.{every}
-use Rattle.base.specs.Laws.Tests.{is-true, passes, and-make, parts, entry-at, entries-make}
+use Rattle.base.specs.Laws.Tests.{is-true, parts, entry-at}
 use Rattle.policy.specs.declared.Policy.{Policy}
-use Rattle.policy.specs.Questions.{firstNo, questions, queryInRange}
+use Rattle.policy.specs.Questions.{firstNo, questions, queryInRange, queriesInRange, recordQuestions}
 use Rattle.policy.specs.Laws.{Answers, answers, answered-with, firstNo-zero}
 use Rattle.policy.specs.declared.Queries.{Queries}
 use Rattle.engine.specs.Calls.{refusedOr}
@@ -18,14 +17,13 @@ use Rattle.engine.specs.Meaning.{AllYes}
 use Rattle.engine.specs.Laws.Refusals.{answered}
 use Rattle.format.specs.Bounds.{longestFile}
 use Rattle.format.specs.Entries.{zeroQuery}
-use Rattle.reader.specs.declared.Reading.{Reading}
 use Rattle.reader.specs.File.{readOf}
 use Rattle.reader.specs.Cleared.{clearedReading}
-use Rattle.reader.specs.Claim.{AcceptedFile, DraftStates, States}
+use Rattle.reader.specs.Claim.{AcceptedFile, States}
 use Rattle.reader.specs.Laws.Back.{file-short, reads-back}
-use Rattle.reader.specs.Laws.States.{states, stated-answers}
+use Rattle.reader.specs.Laws.States.{states, stated-answers, queries-range}
 use Rattle.writer.specs.declared.Written.the-variants.{Refused, Length}
-use Rattle.writer.specs.Writing.{queriesInRange, recordQuestions, fileText, writeQuestions, writeOf, writeAfter, Writes}
+use Rattle.writer.specs.Writing.{fileText, writeQuestions, writeOf, writeAfter, Writes}
 use Rattle.writer.specs.Claim.{AcceptedRecord, Rewritten}
 use Rattle.writer.specs.Laws.Room.{room, answered-before}
 
@@ -80,15 +78,6 @@ write-means p qs before held = go (firstNo (writeQuestions p qs (length before))
           rw front (reads-written p qs (held (answered-before p qs (length before) e))),
         )
     go (suc n) e = ((e, λ z. omega arith), refl)
-
--- the queries that a file states are in range
-pub queries-range : {s : List ℕ} {r : Reading} → DraftStates s r → T (queriesInRange (r .policy) (r .queries))
-unfolding queriesInRange
-queries-range {r = r} stated =
-    let p = r .policy in
-    let qs = r .queries in
-    let each = entries-make (queryInRange p) zeroQuery (qs .count) (qs .at) (λ i less. passes _ (stated .queries i less)) in
-    and-make (leb (qs .count) 64) (every (queryInRange p) (take (qs .count) (qs .at))) (le→leb (qs .count) 64 (stated .few)) each
 
 module _ (s : List ℕ) (accepted : AcceptedFile s) where
   stated : States s (readOf s)

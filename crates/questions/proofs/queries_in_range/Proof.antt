@@ -7,25 +7,27 @@ use borrow.Author.Needs.{needs}
 use borrow.Author.Tests.{le-leb, lt-leb}
 use Rattle.base.proofs.Every.{Passed, passed-none, passed-more, passed-fails, passed-all}
 use Rattle.base.proofs.Tested.{tested-no, tested-yes}
-use Rattle.policy.specs.Questions.{isQuery}
+use Rattle.policy.specs.Questions.{isQuery, queryInRange, queriesInRange}
 use Rattle.policy.proofs.Arrays.{length-mapped}
-use Rattle.format.specs.Entries.{zeroQuery}
-use Rattle.writer.proofs.queries_in_range.Statement.{statement}
-use Rattle.writer.proofs.queries_in_range.Tie as tie
+use Rattle.policy.specs.Record.{zeroQuery}
+use Rattle.questions.proofs.queries_in_range.Statement.{statement}
+use Rattle.questions.proofs.queries_in_range.Tie as tie
 
 abbrev Inv-loop : tie.InvT-loop
-Inv-loop decisions actions count query i₀ i = Passed (isQuery decisions actions) query 64 count i
+Inv-loop count decisions actions query i₀ i = Passed (isQuery decisions actions) query 64 count i
 
 abbrev μ-loop : tie.MeasureT-loop
-μ-loop decisions actions count query i₀ i = count - i
+μ-loop count decisions actions query i₀ i = count - i
 
 returns : tie.Need-returns Inv-loop μ-loop
+unfolding queriesInRange
 returns c = rw (lt-leb _ 64 (c .if1 .taken))
 
 loop-holds : tie.Need-loop-holds Inv-loop μ-loop
 loop-holds c = passed-none (search (needs, length-mapped)) (omega arith)
 
 returns-2 : tie.Need-returns-2 Inv-loop μ-loop
+unfolding queriesInRange queryInRange
 returns-2 c =
     let top = c .before .before .before .before in
     let short = top .before .before .if1 .left in
@@ -38,6 +40,7 @@ loop-again c =
     (tested-yes (c .before .query-in-range .ensures) (c .if2 .left))
 
 returns-3 : tie.Need-returns-3 Inv-loop μ-loop
+unfolding queriesInRange queryInRange
 returns-3 c =
     let top = c .before in
     let short = top .before .before .if1 .left in
