@@ -34,7 +34,7 @@ returns c =
         best = λ one e. record {
           listing = c .before .list .ensures .0;
           listed = c .before .list .ensures .1 .0;
-          firing = c .fire .ensures ∙ ap (λ (x : Choice). fireOf (q .policy) (q .query) (x .mask)) (chosen-same (same ∙ e));
+          firing = c .fire .ensures .0 ∙ ap (λ (x : Choice). fireOf (q .policy) (q .query) (x .mask)) (chosen-same (same ∙ e));
         };
       },
       c .before .list .kept .1 .1 .0,
