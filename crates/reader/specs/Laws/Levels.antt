@@ -1,15 +1,15 @@
 -- Levels that fit, put into a draft in place of its own, make an accepted file.
-use Prim.Native.Nat.{ℕ, zero, suc, _≤_, _<_}
-use native.Mathlib.Numerals.{unary-clauses}
+use Prim.Native.Nat.{ℕ, _≤_, _<_}
 use native.Mathlib.Omega.{arith}
 use mathlib.Core.Path.{_≡_, refl, ap, ap₂, _∙_}
 use mathlib.Core.Bool.{true}
-use mathlib.Core.List.{List, [], _∷_}
-use lib.ListN.{length, getD, take, replicate}
+use mathlib.Core.List.{List}
+use lib.ListN.{length, getD, take}
 use lib.Seq.{length-take-le}
 use Rattle.base.specs.Laws.Tests.{passes}
 use Rattle.base.specs.Lists.{filled}
 use Rattle.base.specs.Laws.All.{all-of}
+use Rattle.base.specs.Laws.Lists.{filled-of}
 use Rattle.policy.specs.Record.{withLevels}
 use Rattle.policy.specs.Questions.{levelsFit, weightsFit}
 use Rattle.format.specs.Written.{fileOf}
@@ -25,17 +25,6 @@ pub record FileLevels (n : ℕ) (level : List ℕ) : Type 0 where
   pub places : length level ≡ 128
   pub small : (d : ℕ) → d < n → getD level d 0 ≤ 15
   pub zeros : (d : ℕ) → n ≤ d → getD level d 0 ≡ 0
-
--- a list of zeros, and one with zeros from n on
-only-zeros : (l : List ℕ) → ((d : ℕ) → getD l d 0 ≡ 0) → l ≡ replicate (length l) 0
-only-zeros [] zeros = refl
-only-zeros (x ∷ l) zeros = ap₂ (λ y t. y ∷ t) (zeros 0) (only-zeros l (λ d. zeros (suc d)))
-
-filled-zeros : (n : ℕ) (l : List ℕ) → ((d : ℕ) → n ≤ d → getD l d 0 ≡ 0) → l ≡ filled (length l) 0 (take n l)
-unfolding filled
-filled-zeros zero l zeros = simp unary-clauses (only-zeros l (λ d. zeros d (omega arith)))
-filled-zeros (suc n) [] zeros = refl
-filled-zeros (suc n) (x ∷ l) zeros = simp unary-clauses (ap (λ t. x ∷ t) (filled-zeros n l (λ d h. zeros (suc d) (omega arith))))
 
 -- the reading with these levels
 abbrev readingWith : Reading → List ℕ → Reading
@@ -59,7 +48,7 @@ module _ (r : Reading) (level : List ℕ) (f : ReadableLines r) (g : FileLevels 
         levels = all-of (λ l. l ≤ 15) 0 level n (g .small);
         action = e .action;
         rule = e .rule;
-        clear = ap₂ withLevels (e .clear) (filled-zeros n level (g .zeros) ∙ ap (λ k. filled k 0 (take n level)) (g .places));
+        clear = ap₂ withLevels (e .clear) (filled-of n 0 level (g .zeros) ∙ ap (λ k. filled k 0 (take n level)) (g .places));
       }
 
   lines-with : ReadableLines (readingWith r level)
