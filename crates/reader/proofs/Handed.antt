@@ -16,9 +16,18 @@ use Rattle.lines.proofs.Bytes.{from}
 use Rattle.lines.proofs.Steps.{ends, stays, found-at, refused-at, next}
 use Rattle.reader.specs.declared.Reading.{Reading}
 use Rattle.reader.specs.File.{refusedReading, lines, draft, handed, draftOf, readOf}
-use Rattle.reader.specs.Claim.{DraftStates}
+use Rattle.reader.specs.Claim.{DraftStates, Drafts, Reads}
 use Rattle.reader.specs.Laws.Files.{number, read-refused, read-passed, read-denied}
+use Rattle.reader.specs.Laws.Means.{drafts, reads}
 use Rattle.reader.specs.Laws.States.{draft-states, draft-questions}
+
+-- what equals the definition means what that means
+module _ (s : List ℕ) {r : Reading} where
+  pub draft-means : r ≡ draftOf s → (r ≡ draftOf s) × Drafts s r
+  draft-means e = (e, subst (Drafts s) (sym e) (drafts s))
+
+  pub read-means : r ≡ readOf s → (r ≡ readOf s) × Reads s r
+  read-means e = (e, subst (Reads s) (sym e) (reads s))
 
 -- question 1, then the draft
 abbrev pub input : List ℕ → Parser Reading

@@ -9,12 +9,12 @@ use Rattle.printing.proofs.clear.Tie as tie
 
 returns : tie.Need-returns
 returns c =
-    refused-once _ (c .before .before .before .read .ensures) _ _ (c .before .if1 .taken) (c .if2 .taken)
+    refused-once _ (c .before .before .before .read .ensures .0) _ _ (c .before .if1 .taken) (c .if2 .taken)
 
 returns-2 : tie.Need-returns-2
 returns-2 c =
     let refused = c .before .before .before .before .before in
-    refused-put _ (refused .before .before .read .ensures) _ _ (refused .if1 .taken) (c .before .before .before .before .if2 .left)
+    refused-put _ (refused .before .before .read .ensures .0) _ _ (refused .if1 .taken) (c .before .before .before .before .if2 .left)
     (c .before .before .refusal .ensures)
 
 -- the queries have 64 places
@@ -24,14 +24,14 @@ long c = search (needs, length-mapped)
 returns-3 : tie.Need-returns-3
 returns-3 c =
     let read = c .before .before .before .before .before .before .before in
-    queries-over _ (read .read .ensures) _ _ (c .before .before .before .before .before .if1 .left) (long read) _
+    queries-over _ (read .read .ensures .0) _ _ (c .before .before .before .before .before .if1 .left) (long read) _
     (c .before .smaller .ensures) (c .if3 .taken)
 
 returns-4 : tie.Need-returns-4
 returns-4 c =
     let under = c .before .before .before .before .before .before in
     let read = under .before .before .before .before .before .before .before in
-    query-put _ (read .read .ensures) _ _ (under .before .before .before .before .before .if1 .left) (long read) _
+    query-put _ (read .read .ensures .0) _ _ (under .before .before .before .before .before .if1 .left) (long read) _
     (under .before .smaller .ensures) (under .if3 .left) (c .before .before .put-result .ensures)
 
 pub clear-spec : {M : Type 1} → statement M

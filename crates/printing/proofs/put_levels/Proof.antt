@@ -13,13 +13,13 @@ returns : tie.Need-returns
 returns c =
     let draft = c .before .before .before .before .before .before in
     same-text (c .before .before .refusal .ensures)
-    (draft-refused _ (draft .draft .ensures) (c .before .before .before .before .if1 .taken))
+    (draft-refused _ (draft .draft .ensures .0) (c .before .before .before .before .if1 .taken))
 
 returns-2 : tie.Need-returns-2
 returns-2 c =
     let found = c .before .before .before .before .before .before in
     let draft = found .before .before .before .before in
-    same-text (c .before .before .refusal2 .ensures) (none-found _ (draft .draft .ensures) (found .before .before .if1 .left)
+    same-text (c .before .before .refusal2 .ensures) (none-found _ (draft .draft .ensures .0) (found .before .before .if1 .left)
     (found .levels .ensures .0) (c .before .before .before .before .if2 .taken))
 
 -- the levels found have 128 places
@@ -45,7 +45,7 @@ returns-3 c =
     let found = count .before .before .before .before .before in
     let draft = found .before .before .before .before in
     let all = front-take (found .levels .result .level) _ (long found) (count .smaller .ensures) in
-    same-text (c .before .before .lines .ensures) (ap (each levelText) all ∙ levels-found _ (draft .draft .ensures)
+    same-text (c .before .before .lines .ensures) (ap (each levelText) all ∙ levels-found _ (draft .draft .ensures .0)
     (found .before .before .if1 .left) (found .levels .ensures .0) (count .before .before .before .if2 .left))
 
 pub put-levels-spec : {M : Type 1} → statement M

@@ -15,7 +15,7 @@ returns : tie.Need-returns
 returns c =
     let draft = c .before .before .before .before .before .before in
     same-text (c .before .before .refusal .ensures)
-    (draft-refused _ (draft .draft .ensures) (c .before .before .before .before .if1 .taken))
+    (draft-refused _ (draft .draft .ensures .0) (c .before .before .before .before .if1 .taken))
 
 array-share-prefix-whole : tie.Need-array-share-prefix-whole
 array-share-prefix-whole c =
@@ -33,7 +33,7 @@ returns-2 c =
     let write = c .before .before .before .before .before .before .before .before in
     let draft = write .before .before .before .before .before .before in
     same-text (c .before .before .refusal2 .ensures)
-    (write-refused _ (draft .draft .ensures) (write .before .before .before .before .if1 .left) _ _ (length-replicate {A = ℕ} longestFile 0)
+    (write-refused _ (draft .draft .ensures .0) (write .before .before .before .before .if1 .left) _ _ (length-replicate {A = ℕ} longestFile 0)
     (subst (Writes _ _ _ _) (c .before .before .before .before .before .written .given .1) (write .write .ensures .1 .1)))
 
 returns-3 : tie.Need-returns-3
@@ -41,7 +41,7 @@ returns-3 c =
     let write = c .before .before .before .before .before .before .before .before .before in
     let draft = write .before .before .before .before .before .before in
     same-text (c .before .before .put .ensures)
-    (file-written _ (draft .draft .ensures) (write .before .before .before .before .if1 .left) _ _ (length-replicate {A = ℕ} longestFile 0)
+    (file-written _ (draft .draft .ensures .0) (write .before .before .before .before .if1 .left) _ _ (length-replicate {A = ℕ} longestFile 0)
     (subst (Writes _ _ _ _) (c .before .before .before .before .before .before .written2 .given .1) (write .write .ensures .1 .1)))
 
 pub put-rewritten-spec : {M : Type 1} → statement M
