@@ -1,10 +1,10 @@
 -- What `draft` answers, from what its parts read; and what `read` answers, from the draft.
 use Prim.Native.Nat.{ℕ, _≤_, _<_}
 use mathlib.Core.Path.{_≡_, refl, sym, ap, subst, _∙_}
-use mathlib.Core.List.{List, []}
+use mathlib.Core.List.{List}
 use lib.Dec.{leb}
 use lib.ListN.{length, drop-of-length-le}
-use Rattle.policy.specs.Questions.{questions, queriesInRange, levelsFit, weightsFit}
+use Rattle.policy.specs.Questions.{queriesInRange, levelsFit, weightsFit}
 use Rattle.policy.specs.Laws.{answers}
 use Rattle.engine.specs.Calls.{checkRecordOf}
 use Rattle.format.specs.Bounds.{mostBytes}
@@ -19,7 +19,7 @@ use Rattle.reader.specs.File.{refusedReading, lines, draft, handed, draf
 use Rattle.reader.specs.Claim.{DraftStates, Drafts, Reads}
 use Rattle.reader.specs.Laws.Files.{number, read-refused, read-passed, read-denied}
 use Rattle.reader.specs.Laws.Means.{drafts, reads}
-use Rattle.reader.specs.Laws.States.{draft-states, draft-questions}
+use Rattle.reader.specs.Laws.States.{draft-states, check-number}
 
 -- what equals the definition means what that means
 module _ (s : List ℕ) {r : Reading} where
@@ -60,10 +60,9 @@ module _ (s : List ℕ) {r : Reading} (h : r ≡ draftOf s) where
   module _ (z : r .refusal ≡ 0) where
     -- the engine's check finds nothing against it but by questions 5 and 6
     check-is : checkRecordOf (r .policy) (r .queries) ≡ number (levelsFit (r .policy)) (weightsFit (r .policy))
-    unfolding checkRecordOf questions
     check-is =
         let zero = sym (ap (λ (x : Reading). x .refusal) h) ∙ z in
-        draft-questions (subst (DraftStates s) (sym h) (draft-states s zero)) []
+        check-number (subst (DraftStates s) (sym h) (draft-states s zero))
 
     pub check-refuses : {n : ℕ} → n ≡ checkRecordOf (r .policy) (r .queries) → ¬ (n ≡ 0) → refusedReading n ≡ readOf s
     check-refuses e ne = rw (e ∙ check-is) (sym (read-denied s r (sym h) z (λ f. ne (e ∙ check-is ∙ f))))

@@ -11,12 +11,12 @@ use Rattle.base.specs.Every.{every}
 use Rattle.base.specs.Lists.{filled}
 use Rattle.base.specs.Laws.All.{all-of, map-same}
 use Rattle.base.specs.Laws.Lists.{filled-length, filled-past, filled-of}
-use Rattle.base.specs.Laws.Tests.{passes, and-left, getD-in}
+use Rattle.base.specs.Laws.Tests.{passes, and-left, and-right, getD-in}
 use Rattle.policy.specs.declared.Policy.{Policy}
 use Rattle.policy.specs.declared.Rule.{Rule}
 use Rattle.policy.specs.declared.Decisions.{Decisions}
 use Rattle.policy.specs.Record.{listed, levelsOf, actionsOf, rulesOf, ruleOf, noAction, noRule, zeroQuery, Sized}
-use Rattle.policy.specs.Questions.{isDecision}
+use Rattle.policy.specs.Questions.{isDecision, inRange, queriesInRange}
 use Rattle.policy.specs.Laws.{InRange, in-range}
 use Rattle.format.specs.Format.{isList, decisionsOf}
 use Rattle.format.specs.Entries.{zeroRule, recordOf}
@@ -30,6 +30,7 @@ use Rattle.reader.specs.File.{readingOf}
 use Rattle.reader.specs.Cleared.{clearedReading}
 use Rattle.reader.specs.Claim.{ClearList, Clear, DraftStates}
 use Rattle.reader.specs.Laws.Readings.{queriesOf, ReadableLines}
+use Rattle.reader.specs.Laws.Back.{queries-few}
 
 -- a list that a line can state
 module _ (n : ℕ) (l : Decisions) (fits : ReadableList n (listed l)) (clear : IsClear l) where
@@ -105,14 +106,21 @@ list-same l few full past = λ i. record {
 }
 
 module _ {s : List ℕ} {r : Reading} (stated : DraftStates s r) where
+  range : InRange (r .policy)
+  range = in-range (r .policy) (and-left (inRange (r .policy)) (queriesInRange (r .policy) (r .queries)) (passes _ (stated .range)))
+
+  few : r .queries .count ≤ 64
+  few = queries-few (r .policy) (r .queries) (stated .clear .places)
+      (and-right (inRange (r .policy)) (queriesInRange (r .policy) (r .queries)) (passes _ (stated .range)))
+
   rule-same : (k : ℕ) → k < r .policy .rules → clearedRule (ruleOf (r .policy) k) ≡ ruleOf (r .policy) k
   unfolding clearedRule
   rule-same k h =
       let x = ruleOf (r .policy) k in
-      let range = in-range (r .policy) (passes _ (stated .range)) .rule k h in
+      let fits = range .rule k h in
       let sized = stated .clear .policy .lists k h in
-      let ifs = list-same (x .ifs) (range .ifs .count) (sized .0) (stated .clear .ifs k h) in
-      let unless = list-same (x .unless) (range .unless .count) (sized .1) (stated .clear .unless k h) in
+      let ifs = list-same (x .ifs) (fits .ifs .count) (sized .0) (stated .clear .ifs k h) in
+      let unless = list-same (x .unless) (fits .unless .count) (sized .1) (stated .clear .unless k h) in
       λ i. record { head = x .head; needs = x .needs; ifs = ifs i; unless = unless i }
 
   rules-same : map clearedRule (rulesOf (r .policy)) ≡ rulesOf (r .policy)
@@ -124,7 +132,6 @@ module _ {s : List ℕ} {r : Reading} (stated : DraftStates s r) where
   policy-same =
       let p = r .policy in
       let c = stated .clear in
-      let range = in-range p (passes _ (stated .range)) in
       let count = length-take-le (p .rules) (p .rule) (omega (arith, c .policy .rules, range .rules)) in
       let rule = refilled 256 (p .rules) zeroRule (p .rule) (c .policy .rules) (c .rules) in
       λ i. record {
@@ -140,6 +147,6 @@ module _ {s : List ℕ} {r : Reading} (stated : DraftStates s r) where
   unfolding clearedReading readingOf
   clear-same =
       let qs = r .queries in
-      let count = length-take-le (qs .count) (qs .at) (omega (arith, stated .clear .places, stated .few)) in
+      let count = length-take-le (qs .count) (qs .at) (omega (arith, stated .clear .places, few)) in
       let at = refilled 64 (qs .count) zeroQuery (qs .at) (stated .clear .places) (stated .clear .queries) in
       λ i. record { refusal = stated .none i; policy = policy-same i; queries = record { count = sym count i; at = at i } }

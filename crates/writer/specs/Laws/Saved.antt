@@ -20,7 +20,7 @@ use Rattle.format.specs.Entries.{zeroQuery}
 use Rattle.reader.specs.File.{readOf}
 use Rattle.reader.specs.Cleared.{clearedReading}
 use Rattle.reader.specs.Claim.{AcceptedFile, States}
-use Rattle.reader.specs.Laws.Back.{file-short, reads-back}
+use Rattle.reader.specs.Laws.Back.{queries-few, queries-fit, file-short, reads-back}
 use Rattle.reader.specs.Laws.States.{states, stated-answers, queries-range}
 use Rattle.writer.specs.declared.Written.the-variants.{Refused, Length}
 use Rattle.writer.specs.Writing.{fileText, writeQuestions, writeOf, writeAfter, Writes}
@@ -33,14 +33,10 @@ module _ (p : Policy) (qs : Queries) (ok : AcceptedRecord p qs) where
   known = answers p (queriesInRange p qs) (ok .answers)
 
   few : qs .count ≤ 64
-  unfolding queriesInRange
-  few = let given = known .given in leb→le (qs .count) 64 (search parts)
+  few = queries-few p qs (ok .queries) (known .given)
 
   each-query : (i : ℕ) → i < qs .count → queryInRange p (getD (qs .at) i zeroQuery) ≡ true
-  unfolding queriesInRange
-  each-query i less =
-      let given = known .given in
-      is-true _ (entry-at (queryInRange p) zeroQuery (qs .count) (qs .at) (search parts) i less (omega (arith, few, ok .queries)))
+  each-query = queries-fit p qs (ok .queries) (known .given)
 
   pub short : length (fileText p qs) ≤ longestFile
   short = file-short p (qs .count) (qs .at) (ok .policy) (ok .queries) few (is-true _ (known .range)) (is-true _ (known .rise)) each-query
@@ -85,10 +81,8 @@ module _ (s : List ℕ) (accepted : AcceptedFile s) where
 
   -- questions 3 to 6 are answered yes to what it states
   record-accepted : AllYes (recordQuestions (readOf s .policy) (readOf s .queries))
-  record-accepted =
-      let rest = queriesInRange (readOf s .policy) (readOf s .queries) in
-      let given = queries-range (stated .draft) in
-      firstNo-zero (questions (readOf s .policy) rest) (answered-with (stated-answers stated rest given) rest given)
+  unfolding checkRecordOf
+  record-accepted = stated .accepted
 
   pub whole : (before : List ℕ) → length s ≤ length before → Rewritten s before
   whole before h =
