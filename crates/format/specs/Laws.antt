@@ -9,5 +9,6 @@ pub mod Policies
 pub mod Asked
 pub mod Lengths
 pub mod Size
+pub mod Cleared
 pub mod Lookups
 pub mod Stated

@@ -5,5 +5,4 @@ pub mod Parser
 pub mod Format
 pub mod Entries
 pub mod Written
-pub mod Cleared
 pub mod Laws

@@ -2,7 +2,7 @@
 use Prim.Native.Nat.{ℕ, _≤_}
 use mathlib.Core.List.{List, _++_}
 use mathlib.Core.Path.{_≡_}
-use lib.ListN.{length, take, drop}
+use lib.ListN.{length, drop}
 use Rattle.policy.specs.declared.Policy.{Policy}
 use Rattle.policy.specs.Record.{Agree, Sized}
 use Rattle.policy.specs.declared.Queries.{Queries}
@@ -12,20 +12,13 @@ use Rattle.format.specs.Bounds.{longestFile}
 use Rattle.reader.specs.File.{readOf}
 use Rattle.reader.specs.Claim.{AcceptedFile}
 use Rattle.writer.specs.declared.Written.the-variants.{Length}
-use Rattle.writer.specs.Writing.{fileText, writeOf, writeAfter, Writes}
+use Rattle.writer.specs.Writing.{AgreeQueries, fileText, writeOf, writeAfter, Writes}
 
 -- a policy and its queries that a program holds, in arrays as long as their structs declare, and accepted
 pub record AcceptedRecord (p : Policy) (qs : Queries) : Type 0 where
   pub policy : Sized p
   pub queries : length (qs .at) ≡ 64
   pub answers : AllYes (recordQuestions p qs)
-
--- queries without the entries past their count; two that agree below their counts
-abbrev pub cutQueries : Queries → Queries
-cutQueries qs = record { count = qs .count; at = take (qs .count) (qs .at) }
-
-abbrev pub AgreeQueries : Queries → Queries → Type 0
-AgreeQueries qs qs′ = cutQueries qs ≡ cutQueries qs′
 
 -- two records give the same bytes and the same answer, with every buffer
 pub record SameFile (p : Policy) (qs : Queries) (p′ : Policy) (qs′ : Queries) : Type 0 where

@@ -52,7 +52,8 @@ module _ (p : Policy) (qs : Queries) where
       let fit = every (queryInRange p) (take (qs .count) (qs .at)) in (
         λ e.
             let known = answers p (queriesInRange p qs) e in
-            let each = entry-or (queryInRange p) zeroQuery (zero-fits (known .range)) (qs .count) (qs .at) (and-right few fit (known .given)) in (
+            let all = and-right few fit (known .given) in
+            let each = entry-or (queryInRange p) zeroQuery (zero-fits (known .range)) (qs .count) (qs .at) all in (
               firstNo-zero (questions p true) (answered-with known true tt),
               leb→le (qs .count) 64 (and-left few fit (known .given)),
               λ i h. firstNo-zero (queryQuestions p _) (answered-with known (queryInRange p _) (each i h)),

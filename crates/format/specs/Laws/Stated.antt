@@ -9,12 +9,12 @@ use lib.Seq.{length-take-le}
 use lib.Dec.{T}
 use mir.Facts.{leb-yes, ltb-yes}
 use Rattle.base.specs.Laws.Tests.{passes, parts, every-at}
-use Rattle.base.specs.Laws.All.{All, all-mapped, all-of}
+use Rattle.base.specs.Laws.All.{All, all-head, all-tail, all-mapped, all-of}
 use Rattle.policy.specs.declared.Policy.{Policy}
 use Rattle.policy.specs.declared.Rule.{Rule}
 use Rattle.policy.specs.declared.Query.{Query}
 use Rattle.policy.specs.declared.Decisions.{Decisions}
-use Rattle.policy.specs.Record.{listed, levelsOf, actionsOf, rulesOf, noRule, Eights, Sized}
+use Rattle.policy.specs.Record.{listed, levelsOf, actionsOf, rulesOf, noRule, cutList, cutRule, Agree, Eights, Sized}
 use Rattle.policy.specs.Questions.{rises, levelInRange, actionInRange, listInRange, ruleInRange, ruleRises, othersInRange, inRange}
 use Rattle.policy.specs.Questions.{listsRise, levelsFit, weightsFit, queryInRange}
 use Rattle.policy.specs.Laws.{InRange, in-range, list-fits, rule-fits}
@@ -22,7 +22,7 @@ use Rattle.format.specs.Text.{ascii, decimal}
 use Rattle.format.specs.Written.{lineOf, each, levelText, actionText, ruleText, entriesText}
 use Rattle.format.specs.Format.{decisionsOf}
 use Rattle.format.specs.Entries.{zeroQuery, recordOf}
-use Rattle.format.specs.Cleared.{clearedRule, cleared}
+use Rattle.format.specs.Laws.Cleared.{clearedRule, cleared}
 use Rattle.format.specs.Laws.Lists.{ReadableList, Clear, listed-of}
 use Rattle.format.specs.Laws.Records.{ReadableAction, ReadableRule, ReadableQuery}
 use Rattle.format.specs.Laws.Policies.{ReadableEntries, ReadablePolicy}
@@ -53,6 +53,24 @@ rule-readable n m r range rise eights = record {
   ifs-clear = clear-list (listed (r .ifs));
   unless-clear = clear-list (listed (r .unless));
 }
+
+-- what f makes of entries that g changes to what f makes the same of
+maps-same : {A B : Type 0} (f : A → B) (g : A → A) (l : List A) → All (λ x. f (g x) ≡ f x) l → map f (map g l) ≡ map f l
+maps-same f g [] all = refl
+maps-same f g (x ∷ l) all = ap₂ (λ y t. y ∷ t) (all-head all) (maps-same f g l (all-tail all))
+
+-- a list as long as its struct declares, and a rule, are cut as they are cleared
+list-cut : (l : Decisions) → length (l .at) ≡ 8 → l .count ≤ 8 → cutList (decisionsOf (listed l)) ≡ cutList l
+unfolding decisionsOf
+list-cut l full few = λ i. record { count = length-take-le (l .count) (l .at) (omega arith) i; at = listed-of (listed l) i }
+
+rule-cut : (n m : ℕ) (r : Rule) → T (ruleInRange n m r) → Eights r → cutRule (clearedRule r) ≡ cutRule r
+unfolding clearedRule
+rule-cut n m r range eights =
+    let fits = rule-fits n m r range in
+    let ifs = list-cut (r .ifs) (eights .0) (fits .ifs .count) in
+    let unless = list-cut (r .unless) (eights .1) (fits .unless .count) in
+    λ i. record { head = r .head; needs = r .needs; ifs = ifs i; unless = unless i }
 
 -- the text of a rule shows its lists only
 rule-text : (r : Rule) → ruleText (clearedRule r) ≡ ruleText r
@@ -112,7 +130,23 @@ module _ (p : Policy) (sized : Sized p) (range : inRange p ≡ true) (rise : lis
       all-mapped (ReadableRule (p .decisions) (p .actions)) clearedRule (rulesOf p)
       (λ r m. rule-readable (p .decisions) (p .actions) r (entries .rules r m) (rises r m) (eights r m))
 
-  -- the cleared record is one that lines can state
+  -- the cleared record has the same entries below its counts
+  pub agrees : Agree p (cleared p)
+  unfolding cleared recordOf
+  agrees =
+      let eights = all-of Eights noRule (p .rule) (p .rules) (sized .lists) in
+      let rules = ap (map cutRule) (rules-same p places) ∙ maps-same cutRule clearedRule (rulesOf p)
+      (λ r m. rule-cut (p .decisions) (p .actions) r (entries .rules r m) (eights r m)) in
+      λ i. record {
+        decisions = p .decisions;
+        actions = p .actions;
+        rules = sym (rule-count p places) i;
+        level = sym (levels-same p places) i;
+        action = sym (actions-same p places) i;
+        rule = sym rules i;
+      }
+
+  -- it is one that lines can state
   entries-readable : ReadableEntries (p .decisions) (p .actions) (cleared p)
   unfolding cleared recordOf
   entries-readable = record {

@@ -14,10 +14,10 @@ use Rattle.policy.specs.Laws.{Answers, firstNo-zero, answered-with, accepted as
 use Rattle.policy.specs.Record.{noRule, ruleOf, Eights, Sized}
 use Rattle.engine.specs.Meaning.{AllYes}
 use Rattle.format.specs.Bounds.{longestFile}
-use Rattle.format.specs.Cleared.{cleared, clearedRule}
+use Rattle.format.specs.Laws.Cleared.{cleared, clearedRule}
 use Rattle.format.specs.Entries.{zeroRule, recordOf}
 use Rattle.format.specs.Format.{decisionsOf}
-use Rattle.reader.specs.Cleared.{clearedReading}
+use Rattle.reader.specs.Laws.Cleared.{clearedReading}
 use Rattle.reader.specs.File.{readingOf, readOf}
 use Rattle.threshold.specs.AtLeast.{decisionsTo, number, without, fewer, having, firstFor, rulesFor, row, rows, plain, atLeast, eight}
 use Rattle.threshold.specs.AtLeast.{stated}

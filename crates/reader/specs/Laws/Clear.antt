@@ -13,21 +13,20 @@ use Rattle.base.specs.Laws.All.{all-of, map-same}
 use Rattle.base.specs.Laws.Lists.{filled-length, filled-past, filled-of}
 use Rattle.base.specs.Laws.Tests.{passes, and-left, and-right, getD-in}
 use Rattle.policy.specs.declared.Policy.{Policy}
-use Rattle.policy.specs.declared.Rule.{Rule}
 use Rattle.policy.specs.declared.Decisions.{Decisions}
 use Rattle.policy.specs.Record.{listed, levelsOf, actionsOf, rulesOf, ruleOf, noAction, noRule, zeroQuery, Sized}
 use Rattle.policy.specs.Questions.{isDecision, inRange, queriesInRange}
 use Rattle.policy.specs.Laws.{InRange, in-range}
 use Rattle.format.specs.Format.{isList, decisionsOf}
 use Rattle.format.specs.Entries.{zeroRule, recordOf}
-use Rattle.format.specs.Cleared.{clearedRule, cleared}
+use Rattle.format.specs.Laws.Cleared.{clearedRule, cleared}
 use Rattle.format.specs.Laws.Lists.{ReadableList}
 use Rattle.format.specs.Laws.Lists.{Clear as IsClear}
 use Rattle.format.specs.Laws.Records.{ReadableRule}
 use Rattle.format.specs.Laws.Policies.{ReadableEntries}
 use Rattle.reader.specs.declared.Reading.{Reading}
 use Rattle.reader.specs.File.{readingOf}
-use Rattle.reader.specs.Cleared.{clearedReading}
+use Rattle.reader.specs.Laws.Cleared.{clearedReading}
 use Rattle.reader.specs.Claim.{ClearList, Clear, DraftStates}
 use Rattle.reader.specs.Laws.Readings.{queriesOf, ReadableLines}
 use Rattle.reader.specs.Laws.Back.{queries-few}

@@ -13,8 +13,8 @@ use Rattle.policy.specs.declared.Queries.{Queries}
 use Rattle.engine.specs.Laws.Alike.{refused-same}
 use Rattle.format.specs.Written.{ruleText, entriesText, fileOf}
 use Rattle.format.specs.Laws.Stated.{texts-same}
-use Rattle.writer.specs.Writing.{fileText, writeQuestions, writeOf, writeAfter}
-use Rattle.writer.specs.Claim.{cutQueries, AgreeQueries, SameFile}
+use Rattle.writer.specs.Writing.{cutQueries, AgreeQueries, fileText, writeQuestions, writeOf, writeAfter}
+use Rattle.writer.specs.Claim.{SameFile}
 
 rule-text-cut : (r : Rule) → ruleText (cutRule r) ≡ ruleText r
 unfolding ruleText

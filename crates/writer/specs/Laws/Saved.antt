@@ -4,26 +4,28 @@ use mathlib.Core.Bool.{true}
 use mathlib.Core.List.{List, _++_}
 use mathlib.Core.Path.{_≡_, refl, sym, ap, _∙_}
 use native.Mathlib.Omega.{arith}
-use lib.Dec.{leb→le}
-use lib.ListN.{length, getD, drop}
-use lib.Seq.{take-at, drop-at}
-use Rattle.base.specs.Laws.Tests.{is-true, parts, entry-at}
+use lib.ListN.{length, take, getD, drop}
+use lib.Seq.{take-at, drop-at, length-take-le}
+use Rattle.base.specs.Laws.Tests.{is-true}
+use Rattle.base.specs.Laws.Lists.{filled-front}
 use Rattle.policy.specs.declared.Policy.{Policy}
-use Rattle.policy.specs.Questions.{firstNo, questions, queryInRange, queriesInRange, recordQuestions}
-use Rattle.policy.specs.Laws.{Answers, answers, answered-with, firstNo-zero}
+use Rattle.policy.specs.Questions.{firstNo, queryInRange, queriesInRange, recordQuestions, checkRecordOf}
+use Rattle.policy.specs.Laws.{Answers, answers}
 use Rattle.policy.specs.declared.Queries.{Queries}
 use Rattle.engine.specs.Calls.{refusedOr}
 use Rattle.engine.specs.Meaning.{AllYes}
 use Rattle.engine.specs.Laws.Refusals.{answered}
 use Rattle.format.specs.Bounds.{longestFile}
 use Rattle.format.specs.Entries.{zeroQuery}
-use Rattle.reader.specs.File.{readOf}
-use Rattle.reader.specs.Cleared.{clearedReading}
+use Rattle.format.specs.Laws.Stated.{agrees}
+use Rattle.reader.specs.declared.Reading.{Reading}
+use Rattle.reader.specs.File.{readingOf, readOf}
+use Rattle.reader.specs.Laws.Cleared.{clearedReading}
 use Rattle.reader.specs.Claim.{AcceptedFile, States}
 use Rattle.reader.specs.Laws.Back.{queries-few, queries-fit, file-short, reads-back}
-use Rattle.reader.specs.Laws.States.{states, stated-answers, queries-range}
+use Rattle.reader.specs.Laws.States.{states}
 use Rattle.writer.specs.declared.Written.the-variants.{Refused, Length}
-use Rattle.writer.specs.Writing.{fileText, writeQuestions, writeOf, writeAfter, Writes}
+use Rattle.writer.specs.Writing.{fileText, writeQuestions, writeOf, writeAfter, ReadBack, Writes}
 use Rattle.writer.specs.Claim.{AcceptedRecord, Rewritten}
 use Rattle.writer.specs.Laws.Room.{room, answered-before}
 
@@ -44,6 +46,22 @@ module _ (p : Policy) (qs : Queries) (ok : AcceptedRecord p qs) where
   pub reads-written : readOf (fileText p qs) ≡ clearedReading p (qs .count) (qs .at)
   reads-written = reads-back p (qs .count) (qs .at) (ok .policy) (ok .queries) few (is-true _ (known .range)) (is-true _ (known .rise))
       each-query (is-true _ (known .levels)) (is-true _ (known .weights))
+
+  -- it is the same record with unused entries zero
+  read-back : ReadBack p qs (readOf (fileText p qs))
+  unfolding clearedReading readingOf
+  read-back =
+      let none = ap (λ (x : Reading). x .refusal) reads-written in
+      let count = length-take-le (qs .count) (qs .at) (omega (arith, few, ok .queries)) in
+      record {
+        none = none;
+        policy = rw reads-written (agrees p (ok .policy) (is-true _ (known .range)) (is-true _ (known .rise)));
+        queries = rw reads-written (λ i. record {
+          count = sym count i;
+          at = sym (filled-front 64 _ zeroQuery (take (qs .count) (qs .at)) refl) i;
+        });
+        clear = states (fileText p qs) none .draft .clear;
+      }
 
 -- what is written where no question is answered no
 module _ (p : Policy) (qs : Queries) (before : List ℕ) (yes : AllYes (writeQuestions p qs (length before))) where
@@ -71,7 +89,7 @@ write-means p qs before held = go (firstNo (writeQuestions p qs (length before))
           refl,
           front,
           drop-at file (drop (length file) before) (length file) refl,
-          rw front (reads-written p qs (held (answered-before p qs (length before) e))),
+          rw front (read-back p qs (held (answered-before p qs (length before) e))),
         )
     go (suc n) e = ((e, λ z. omega arith), refl)
 
