@@ -1,7 +1,7 @@
 -- The texts of `clear` for a file by what the reader returns.
-use Prim.Native.Nat.{ℕ, _≤_, _<_, min}
+use Prim.Native.Nat.{ℕ, zero, suc, _≤_, _<_, min}
 use mathlib.Core.List.{List, [], _∷_, map}
-use mathlib.Core.Path.{_≡_, sym, _∙_, ap, subst}
+use mathlib.Core.Path.{_≡_, refl, sym, _∙_, ap, subst}
 use native.Mathlib.Omega.{arith}
 use lib.ListN.{length, getD, take, length-map, length-take}
 use lib.Seq.{getD-take}
@@ -11,12 +11,17 @@ use Rattle.text.specs.Put.{Puts, refusedText}
 use Rattle.text.specs.Laws.Putting.{same-text}
 use Rattle.reader.specs.declared.Reading.{Reading}
 use Rattle.reader.specs.File.{readOf}
-use Rattle.reader.specs.Laws.Only.{map-at}
 use Rattle.results.specs.Printed.{resultText}
 use Rattle.printing.specs.declared.Printed.{Printed}
 use Rattle.printing.specs.declared.Printed.the-variants.{Length, Nothing}
 use Rattle.printing.specs.Texts.{readingTexts, clearTexts}
 use Rattle.printing.specs.Laws.Handed.{Promised, text-put, none-left, only-put, only-once}
+
+-- the entry at i of a list with f of each entry
+map-at : {A B : Type 0} (f : A → B) (d : A) (e : B) (l : List A) (i : ℕ) → i < length l → getD (map f l) i e ≡ f (getD l i d)
+map-at f d e [] i h = absurd (omega arith)
+map-at f d e (x ∷ l) zero h = refl
+map-at f d e (x ∷ l) (suc i) h = map-at f d e l i (omega arith)
 
 module _ (s : List ℕ) {r : Reading} (read : r ≡ readOf s) where
   refused-texts : ¬ (r .refusal ≡ 0) → refusedText (r .refusal) ∷ [] ≡ clearTexts s
