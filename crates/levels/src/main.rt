@@ -2,10 +2,10 @@
 ghost use mathlib.Core.Path.{_≡_};
 ghost use lib.ListN.{length};
 ghost use Rattle.printing.specs.Texts.{longestLevels, levelsTexts};
-ghost use Rattle.printing.specs.Handing.{textAt};
+ghost use Rattle.text.specs.Handing.{textAt};
 use format::MOST_BYTES;
 use printing::LONGEST_LEVELS;
-use printing::Printed;
+use text::Printed;
 
 // Writes text i of the file, and answers whether all of it was taken.
 fn write(text: &[u8], file: &[u8], i: usize) -> bool

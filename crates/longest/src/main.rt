@@ -2,10 +2,10 @@
 ghost use mathlib.Core.Path.{_≡_};
 ghost use lib.ListN.{length};
 ghost use Rattle.format.specs.Bounds.{longestFile};
-ghost use Rattle.printing.specs.Handing.{textAt};
+ghost use Rattle.text.specs.Handing.{textAt};
 ghost use Rattle.printing.specs.Texts.{longestTexts};
 use format::LONGEST_FILE;
-use printing::Printed;
+use text::Printed;
 
 // Writes text i, and answers whether all of it was taken.
 fn write(text: &[u8], i: usize) -> bool

@@ -1,4 +1,3 @@
 -- Laws that the proofs of the functions cite.
-pub mod Read
 pub mod Found
 pub mod Rewritten

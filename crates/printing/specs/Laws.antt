@@ -1,4 +1,3 @@
 -- Laws of the texts.
 pub mod Fits
 pub mod Rewritten
-pub mod Handed

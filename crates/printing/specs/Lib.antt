@@ -1,4 +1,3 @@
--- The texts that each program prints for a file's bytes, and what handing them out means; Laws says that each fits its buffer.
+-- The texts that `levels`, `rewrite` and `longest` print; Laws says that each fits its buffer.
 pub mod Texts
-pub mod Handing
 pub mod Laws

@@ -1,25 +1,15 @@
--- What each program prints for a file's bytes: a list of texts, written one after the other.
+-- What `levels`, `rewrite` and `longest` print: each has one text.
 use Prim.Native.Nat.{ℕ}
-use mathlib.Core.List.{List, [], _∷_, map}
+use mathlib.Core.List.{List, [], _∷_}
 use lib.ListN.{take}
 use Rattle.policy.specs.declared.Policy.{Policy}
 use Rattle.strata.specs.Levels.{foundLevels}
 use Rattle.engine.specs.Calls.{refusedOr}
 use Rattle.format.specs.Written.{each, levelText}
 use Rattle.text.specs.Put.{refusedText}
-use Rattle.reader.specs.declared.Reading.{Reading}
 use Rattle.reader.specs.File.{draftOf, readOf}
 use Rattle.threshold.specs.AtLeast.{atLeast, stated}
 use Rattle.writer.specs.Writing.{fileText}
-use Rattle.results.specs.Printed.{resultText}
-
--- clear: the refusal of the file, or the text of each of its queries
-unfoldable pub readingTexts : Reading → List (List ℕ)
-readingTexts r = refusedOr (r .refusal) (λ n. refusedText n ∷ [])
-    (map (resultText (r .policy)) (take (r .queries .count) (r .queries .at)))
-
-unfoldable pub clearTexts : List ℕ → List (List ℕ)
-clearTexts s = readingTexts (readOf s)
 
 -- no text of levels is longer, as Laws.Fits shows
 abbrev pub longestLevels : ℕ

@@ -1,24 +1,18 @@
-// What each program prints for a file's bytes: a list of texts, handed out one at a time into a lent buffer. A text that has no
-// room in the buffer is cut; no text is longer than the named bounds.
+// What `levels`, `rewrite` and `longest` print: one text each, handed out into a lent buffer. A text that has no room there is cut;
+// none is longer than LONGEST_LEVELS or `format::LONGEST_FILE`.
 ghost use mathlib.Core.Path.{_≡_};
 ghost use lib.ListN.{length};
 ghost use Rattle.text.specs.Put.{Puts};
-ghost use Rattle.printing.specs.Handing.{handedOut, heldAfter, Hands};
-ghost use Rattle.printing.specs.Texts.{clearTexts, levelsText, levelsTexts, rewriteText, rewriteTexts, longestText, longestTexts};
+ghost use Rattle.text.specs.Handing.{handedOut, heldAfter, Hands};
+ghost use Rattle.printing.specs.Texts.{levelsText, levelsTexts, rewriteText, rewriteTexts, longestText, longestTexts};
 use base::smaller;
 use format::LONGEST_FILE;
 use policy::MOST_DECISIONS;
-use policy::MOST_QUERIES;
+use text::Printed;
 use writer::Written;
 
-// No text of `levels` is longer. (Those of `clear` have `results::LONGEST_RESULT`, and files `format::LONGEST_FILE`.)
+// No text of `levels` is longer.
 pub const LONGEST_LEVELS: usize = 2176;
-
-// What is handed out: the length of the text that stands at the start of the buffer, or that no text is left.
-pub enum Printed {
-    Length(usize),
-    Nothing,
-}
 
 // Puts the levels found for a file, or the refusal.
 fn put_levels(buffer: &mut [u8], file: &[u8]) -> usize
@@ -63,30 +57,6 @@ fn put_longest(buffer: &mut [u8]) -> usize
     let policy = threshold::policy();
     let queries = threshold::queries();
     records::put_file(buffer, policy, queries)
-}
-
-// Text i of `clear` for a file: its refusal, or one text for each query.
-pub fn clear(file: &[u8], i: usize, buffer: &mut [u8]) -> Printed
-    ensures { λ r. ⌜ r ≡ handedOut (clearTexts (now (file .entry))) i (length (now (buffer .entry))) ⌝ }
-    ensures { λ _. ⌜ now (buffer .exit) ≡ heldAfter (clearTexts (now (file .entry))) i (now (buffer .entry)) ⌝ }
-    ensures { λ r. ⌜ Hands (clearTexts (now (file .entry))) i (now (buffer .entry)) (now (buffer .exit)) r ⌝ }
-{
-    let reading = reader::read(file);
-    if reading.refusal != 0 {
-        if i != 0 {
-            return Printed::Nothing;
-        }
-        return Printed::Length(text::refusal(buffer, 0, reading.refusal));
-    }
-    let queries = reading.queries;
-    let query = queries.at;
-    let count = smaller(queries.count as usize, MOST_QUERIES);
-    if i >= count {
-        return Printed::Nothing;
-    }
-    let policy = reading.policy;
-    let one = query[i];
-    Printed::Length(results::put_result(buffer, policy, one))
 }
 
 // The one text of `levels` for a file.

@@ -1,3 +1,3 @@
--- The text of a query, as `clear` prints it; Laws has what is shown of it.
+-- What `clear` prints for a file's bytes; Laws has what is shown of it.
 pub mod Printed
 pub mod Laws

@@ -1,6 +1,6 @@
--- The text of a query: what the calls return for it, in lines.
+-- What `clear` prints for a file's bytes: its refusal, or for each query a text, what the calls return for it in lines.
 use Prim.Native.Nat.{ℕ}
-use mathlib.Core.List.{List, _++_}
+use mathlib.Core.List.{List, [], _∷_, _++_, map}
 use lib.ListN.{take, replicate}
 use Rattle.policy.specs.declared.Policy.{Policy}
 use Rattle.policy.specs.declared.Query.{Query}
@@ -9,10 +9,12 @@ use Rattle.engine.specs.declared.Answer.the-variants.{Refused as choose-refused
 use Rattle.engine.specs.declared.Listing.{Listing}
 use Rattle.engine.specs.declared.Listing.the-variants.{Refused as list-refused, Listed}
 use Rattle.engine.specs.Sets.{mostSlim}
-use Rattle.engine.specs.Calls.{chooseOf, listOf, listAfter, fireOf}
+use Rattle.engine.specs.Calls.{refusedOr, chooseOf, listOf, listAfter, fireOf}
 use Rattle.format.specs.Text.{ascii, decimal}
 use Rattle.format.specs.Written.{lineOf, commas}
 use Rattle.text.specs.Put.{refusedText}
+use Rattle.reader.specs.declared.Reading.{Reading}
+use Rattle.reader.specs.File.{readOf}
 
 -- no query's text is longer, as Laws.Fits shows
 abbrev pub longestResult : ℕ
@@ -47,3 +49,12 @@ module _ (p : Policy) (q : Query) where
   -- the text of the query
   unfoldable pub resultText : List ℕ
   resultText = lineOf (ascii "want") (decimal (q .want)) ++ answerText (chooseOf p q) setsListed rulesFired
+
+-- the texts of what is read: the refusal, or the text of each query
+unfoldable pub readingTexts : Reading → List (List ℕ)
+readingTexts r = refusedOr (r .refusal) (λ n. refusedText n ∷ [])
+    (map (resultText (r .policy)) (take (r .queries .count) (r .queries .at)))
+
+-- and of a file
+unfoldable pub clearTexts : List ℕ → List (List ℕ)
+clearTexts s = readingTexts (readOf s)

@@ -1,5 +1,5 @@
-// What is worked out of a query, and its text, put into a lent buffer behind its first `at` bytes. Each function that puts returns
-// where its text ends; bytes that do not fit are dropped.
+// What `clear` prints for a file's bytes: the refusal, or for each query what the calls return for it. Each function that puts a
+// text into the lent buffer returns where it ends; bytes that do not fit are dropped.
 ghost use mathlib.Core.Path.{_≡_};
 ghost use mathlib.Core.List.{_++_};
 ghost use lib.ListN.{length, take};
@@ -8,7 +8,8 @@ ghost use Rattle.format.specs.Text.{ascii, decimal};
 ghost use Rattle.format.specs.Written.{lineOf, commas};
 ghost use Rattle.text.specs.Put.{Puts};
 ghost use Rattle.results.specs.Laws.Worked.{Worked};
-ghost use Rattle.results.specs.Printed.{written, answerText, resultText};
+ghost use Rattle.text.specs.Handing.{handedOut, heldAfter, Hands};
+ghost use Rattle.results.specs.Printed.{written, answerText, resultText, clearTexts};
 use base::smaller;
 use engine::Answer;
 use engine::Choice;
@@ -16,18 +17,20 @@ use engine::Firing;
 use engine::Listing;
 use engine::MOST_SLIM;
 use policy::MOST_DECISIONS;
+use policy::MOST_QUERIES;
 use policy::Policy;
 use policy::Query;
+use text::Printed;
 
 // No query's text is longer.
 pub const LONGEST_RESULT: usize = 80000;
 
 // What the calls return for a query: the answer, and where it is a choice the sets listed and the rules fired for the best.
-pub struct QueryResult {
-    pub want: u8,
-    pub answer: Answer,
-    pub listing: Listing,
-    pub firing: Firing,
+struct QueryResult {
+    want: u8,
+    answer: Answer,
+    listing: Listing,
+    firing: Firing,
 }
 
 // Works a query, and writes its slim sets into the lent list.
@@ -124,11 +127,35 @@ fn put_answer(buffer: &mut [u8], at: usize, result: QueryResult, places: &[u16])
 }
 
 // Works a query, and puts its text at the start of the buffer.
-pub fn put_result(buffer: &mut [u8], policy: Policy, query: Query) -> usize
+fn put_result(buffer: &mut [u8], policy: Policy, query: Query) -> usize
     ensures { λ r. ⌜ Puts (now (buffer .entry)) 0 (resultText policy query) (now (buffer .exit)) r ⌝ }
 {
     let mut places = [0u16; MOST_SLIM];
     let result = work(policy, query, &mut places);
     let at = text::line(buffer, 0, b"want=", result.want as u32);
     put_answer(buffer, at, result, &places)
+}
+
+// Text i of `clear` for a file: its refusal, or one text for each query.
+pub fn clear(file: &[u8], i: usize, buffer: &mut [u8]) -> Printed
+    ensures { λ r. ⌜ r ≡ handedOut (clearTexts (now (file .entry))) i (length (now (buffer .entry))) ⌝ }
+    ensures { λ _. ⌜ now (buffer .exit) ≡ heldAfter (clearTexts (now (file .entry))) i (now (buffer .entry)) ⌝ }
+    ensures { λ r. ⌜ Hands (clearTexts (now (file .entry))) i (now (buffer .entry)) (now (buffer .exit)) r ⌝ }
+{
+    let reading = reader::read(file);
+    if reading.refusal != 0 {
+        if i != 0 {
+            return Printed::Nothing;
+        }
+        return Printed::Length(text::refusal(buffer, 0, reading.refusal));
+    }
+    let queries = reading.queries;
+    let query = queries.at;
+    let count = smaller(queries.count as usize, MOST_QUERIES);
+    if i >= count {
+        return Printed::Nothing;
+    }
+    let policy = reading.policy;
+    let one = query[i];
+    Printed::Length(put_result(buffer, policy, one))
 }

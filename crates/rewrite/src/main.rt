@@ -2,11 +2,11 @@
 ghost use mathlib.Core.Path.{_≡_};
 ghost use lib.ListN.{length};
 ghost use Rattle.format.specs.Bounds.{longestFile};
-ghost use Rattle.printing.specs.Handing.{textAt};
+ghost use Rattle.text.specs.Handing.{textAt};
 ghost use Rattle.printing.specs.Texts.{rewriteTexts};
 use format::LONGEST_FILE;
 use format::MOST_BYTES;
-use printing::Printed;
+use text::Printed;
 
 // Writes text i of the file, and answers whether all of it was taken.
 fn write(text: &[u8], file: &[u8], i: usize) -> bool

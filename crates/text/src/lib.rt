@@ -5,6 +5,13 @@ ghost use Rattle.format.specs.Text.{ascii, decimal};
 ghost use Rattle.format.specs.Written.{commas, each};
 ghost use Rattle.text.specs.Put.{Puts, comma, refusedText};
 
+// What a call answers that hands out texts one at a time: the length of the text that stands at the start of the buffer, or that
+// no text is left.
+pub enum Printed {
+    Length(usize),
+    Nothing,
+}
+
 // Puts a text.
 pub fn put(buffer: &mut [u8], at: usize, text: &[u8]) -> usize
     ensures { λ r. ⌜ Puts (now (buffer .entry)) at (now (text .entry)) (now (buffer .exit)) r ⌝ }

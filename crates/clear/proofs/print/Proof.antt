@@ -6,10 +6,9 @@ use borrow.Author.Needs.{needs}
 use denote.Ref.{now}
 use lib.ListN.{length}
 use lib.Seq.{length-take-le}
-use Rattle.results.specs.Printed.{longestResult}
-use Rattle.printing.specs.Texts.{clearTexts}
-use Rattle.printing.specs.Laws.Fits.{clear-fits, few-texts}
-use Rattle.printing.specs.Laws.Handed.{Turn, turn}
+use Rattle.results.specs.Printed.{longestResult, clearTexts}
+use Rattle.results.specs.Laws.Texts.{clear-fits, few-texts}
+use Rattle.text.specs.Laws.Handed.{Turn, turn}
 use Rattle.clear.proofs.print.Statement.{statement}
 use Rattle.clear.proofs.print.Tie as tie
 

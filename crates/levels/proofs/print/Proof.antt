@@ -8,7 +8,7 @@ use lib.ListN.{length}
 use lib.Seq.{length-take-le}
 use Rattle.printing.specs.Texts.{longestLevels, levelsTexts}
 use Rattle.printing.specs.Laws.Fits.{levels-fit}
-use Rattle.printing.specs.Laws.Handed.{Turn, turn}
+use Rattle.text.specs.Laws.Handed.{Turn, turn}
 use Rattle.levels.proofs.print.Statement.{statement}
 use Rattle.levels.proofs.print.Tie as tie
 

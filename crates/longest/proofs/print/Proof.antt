@@ -7,7 +7,7 @@ use lib.ListN.{length}
 use lib.Seq.{length-take-le}
 use Rattle.format.specs.Bounds.{longestFile}
 use Rattle.printing.specs.Texts.{longestTexts}
-use Rattle.printing.specs.Laws.Handed.{Turn, turn}
+use Rattle.text.specs.Laws.Handed.{Turn, turn}
 use Rattle.longest.specs.Laws.Written.{longest-fits}
 use Rattle.longest.proofs.print.Statement.{statement}
 use Rattle.longest.proofs.print.Tie as tie

@@ -24,7 +24,7 @@ use Rattle.threshold.specs.AtLeast.{stated}
 use Rattle.threshold.specs.Laws.Taken.{accepted}
 use Rattle.writer.specs.Claim.{AcceptedRecord}
 use Rattle.writer.specs.Laws.Saved.{short, reads-written}
-use Rattle.printing.specs.Handing.{textAt}
+use Rattle.text.specs.Handing.{textAt}
 use Rattle.printing.specs.Texts.{longestText, longestTexts}
 use Rattle.printing.specs.Laws.Fits.{only-fits}
 

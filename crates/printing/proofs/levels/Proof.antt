@@ -1,6 +1,6 @@
 -- `printing::levels` meets its contract: there is one text.
 use borrow.Author.Needs.{needs}
-use Rattle.printing.specs.Laws.Handed.{only-put, only-once}
+use Rattle.text.specs.Laws.Handed.{only-put, only-once}
 use Rattle.printing.proofs.levels.Statement.{statement}
 use Rattle.printing.proofs.levels.Tie as tie
 

@@ -1,6 +1,6 @@
 -- `printing::rewrite` meets its contract: there is one text.
 use borrow.Author.Needs.{needs}
-use Rattle.printing.specs.Laws.Handed.{only-put, only-once}
+use Rattle.text.specs.Laws.Handed.{only-put, only-once}
 use Rattle.printing.proofs.rewrite.Statement.{statement}
 use Rattle.printing.proofs.rewrite.Tie as tie
 

@@ -9,7 +9,7 @@ use lib.Seq.{length-take-le}
 use Rattle.format.specs.Bounds.{longestFile}
 use Rattle.printing.specs.Texts.{rewriteTexts}
 use Rattle.printing.specs.Laws.Fits.{rewrite-fits}
-use Rattle.printing.specs.Laws.Handed.{Turn, turn}
+use Rattle.text.specs.Laws.Handed.{Turn, turn}
 use Rattle.rewrite.proofs.print.Statement.{statement}
 use Rattle.rewrite.proofs.print.Tie as tie
 

@@ -1,11 +1,11 @@
--- `printing::clear` meets its contract: a refused file has one text, and any other that of each query.
+-- `results::clear` meets its contract: a refused file has one text, and any other that of each query.
 use mathlib.Core.Path.{_≡_}
 use borrow.Author.Needs.{needs}
 use lib.ListN.{length}
 use Rattle.policy.proofs.Arrays.{length-mapped}
-use Rattle.printing.proofs.Read.{refused-once, refused-put, queries-over, query-put}
-use Rattle.printing.proofs.clear.Statement.{statement}
-use Rattle.printing.proofs.clear.Tie as tie
+use Rattle.results.proofs.Read.{refused-once, refused-put, queries-over, query-put}
+use Rattle.results.proofs.clear.Statement.{statement}
+use Rattle.results.proofs.clear.Tie as tie
 
 returns : tie.Need-returns
 returns c =

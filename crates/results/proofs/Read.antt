@@ -5,17 +5,16 @@ use mathlib.Core.Path.{_≡_, refl, sym, _∙_, ap, subst}
 use native.Mathlib.Omega.{arith}
 use lib.ListN.{length, getD, take, length-map, length-take}
 use lib.Seq.{getD-take}
+use Rattle.policy.specs.Record.{zeroQuery}
 use Rattle.engine.specs.Laws.Refusals.{answered, refused}
-use Rattle.format.specs.Entries.{zeroQuery}
 use Rattle.text.specs.Put.{Puts, refusedText}
 use Rattle.text.specs.Laws.Putting.{same-text}
 use Rattle.reader.specs.declared.Reading.{Reading}
 use Rattle.reader.specs.File.{readOf}
-use Rattle.results.specs.Printed.{resultText}
-use Rattle.printing.specs.declared.Printed.{Printed}
-use Rattle.printing.specs.declared.Printed.the-variants.{Length, Nothing}
-use Rattle.printing.specs.Texts.{readingTexts, clearTexts}
-use Rattle.printing.specs.Laws.Handed.{Promised, text-put, none-left, only-put, only-once}
+use Rattle.results.specs.Printed.{resultText, readingTexts, clearTexts}
+use Rattle.text.specs.declared.Printed.{Printed}
+use Rattle.text.specs.declared.Printed.the-variants.{Length, Nothing}
+use Rattle.text.specs.Laws.Handed.{Promised, text-put, none-left, only-put, only-once}
 
 -- the entry at i of a list with f of each entry
 map-at : {A B : Type 0} (f : A → B) (d : A) (e : B) (l : List A) (i : ℕ) → i < length l → getD (map f l) i e ≡ f (getD l i d)

@@ -6,11 +6,11 @@ use borrow.Author.Tests.{lt-ltb, le-ltb}
 use native.Mathlib.Omega.{arith}
 use lib.ListN.{length, take, length-take}
 use lib.Seq.{take-all}
 use Rattle.text.specs.Put.{fitting, Puts}
 use Rattle.text.specs.Laws.Putting.{Stands, part as fitted, at-start, same-text}
-use Rattle.printing.specs.declared.Printed.{Printed}
-use Rattle.printing.specs.declared.Printed.the-variants.{Length, Nothing}
-use Rattle.printing.specs.Handing.{textAt, Hands, handedOut, heldAfter}
+use Rattle.text.specs.declared.Printed.{Printed}
+use Rattle.text.specs.declared.Printed.the-variants.{Length, Nothing}
+use Rattle.text.specs.Handing.{textAt, Hands, handedOut, heldAfter}
 
 -- the three promises
 abbrev pub Promised : List (List ℕ) → ℕ → List ℕ → List ℕ → Printed → Type 0
