@@ -3,7 +3,7 @@ use Prim.Native.Nat.{ℕ, _≤_, _<_}
 use native.Mathlib.Omega.{arith}
 use mathlib.Core.Path.{_≡_, sym, ap, _∙_}
 use mathlib.Core.List.{List, map}
-use lib.Dec.{leb}
+use lib.Dec.{T, leb}
 use lib.ListN.{length, take, getD, length-map}
 use lib.Seq.{length-take-le}
 use mir.Facts.{leb-yes}
@@ -105,12 +105,15 @@ list-same l few full past = λ i. record {
 }
 
 module _ {s : List ℕ} {r : Reading} (stated : DraftStates s r) where
-  range : InRange (r .policy)
-  range = in-range (r .policy) (and-left (inRange (r .policy)) (queriesInRange (r .policy) (r .queries)) (passes _ (stated .range)))
+  -- question 3 is answered yes to the policy and to the queries
+  pub stated-range : T (inRange (r .policy))
+  stated-range = and-left (inRange (r .policy)) (queriesInRange (r .policy) (r .queries)) (passes _ (stated .range))
 
-  few : r .queries .count ≤ 64
-  few = queries-few (r .policy) (r .queries) (stated .clear .places)
-      (and-right (inRange (r .policy)) (queriesInRange (r .policy) (r .queries)) (passes _ (stated .range)))
+  pub stated-queries : T (queriesInRange (r .policy) (r .queries))
+  stated-queries = and-right (inRange (r .policy)) (queriesInRange (r .policy) (r .queries)) (passes _ (stated .range))
+
+  range : InRange (r .policy)
+  range = in-range (r .policy) stated-range
 
   rule-same : (k : ℕ) → k < r .policy .rules → clearedRule (ruleOf (r .policy) k) ≡ ruleOf (r .policy) k
   unfolding clearedRule
@@ -146,6 +149,7 @@ module _ {s : List ℕ} {r : Reading} (stated : DraftStates s r) where
   unfolding clearedReading readingOf
   clear-same =
       let qs = r .queries in
-      let count = length-take-le (qs .count) (qs .at) (omega (arith, stated .clear .places, few)) in
+      let few = queries-few (r .policy) qs (stated .clear .places) stated-queries in
+      let count = length-take-le (qs .count) (qs .at) (omega (arith, stated .clear .places)) in
       let at = refilled 64 (qs .count) zeroQuery (qs .at) (stated .clear .places) (stated .clear .queries) in
       λ i. record { refusal = stated .none i; policy = policy-same i; queries = record { count = sym count i; at = at i } }

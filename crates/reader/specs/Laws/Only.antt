@@ -7,10 +7,10 @@ use Rattle.base.specs.Laws.Tests.{is-true}
 use Rattle.reader.specs.declared.Reading.{Reading}
 use Rattle.reader.specs.File.{draftOf, readOf}
 use Rattle.reader.specs.Claim.{DraftStates, States}
-use Rattle.reader.specs.Laws.Clear.{clear-same}
+use Rattle.reader.specs.Laws.Clear.{stated-range, stated-queries, clear-same}
 use Rattle.reader.specs.Laws.Files.{read-passed}
 use Rattle.reader.specs.Laws.Back.{draft-back, queries-few, queries-fit}
-use Rattle.reader.specs.Laws.States.{stated-range, stated-queries, stated-answers}
+use Rattle.reader.specs.Laws.States.{stated-answers}
 
 module _ (s : List ℕ) (r : Reading) where
   pub draft-only : DraftStates s r → r ≡ draftOf s
