@@ -97,11 +97,6 @@ each-in-range p t = record {
   rules = every-at (ruleInRange (p .decisions) (p .actions)) (rulesOf p) (search parts);
 }
 
--- a rule that lines can state is clear
-pub rule-clear : (n m : ℕ) (r : Rule) → ReadableRule n m r → clearedRule r ≡ r
-unfolding clearedRule Clear
-rule-clear n m r f = λ i. record { head = r .head; needs = r .needs; ifs = sym (f .ifs-clear) i; unless = sym (f .unless-clear) i }
-
 module _ (p : Policy) (sized : Sized p) (range : inRange p ≡ true) (rise : listsRise p ≡ true) where
   counts : InRange p
   counts = in-range p (passes _ range)
