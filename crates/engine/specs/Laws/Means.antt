@@ -23,7 +23,8 @@ use Rattle.policy.specs.Questions.{firstNo, questions, isDecision, inRange, que
 use Rattle.policy.specs.Questions.{recordQuestions}
 use Rattle.policy.specs.Laws.{answers, answered-with, accepted, firstNo-zero, in-range}
 use Rattle.model.specs.World.{worldOf}
-use Rattle.model.specs.Fire.{State, holds, upTo, firedOf}
+use Rattle.model.specs.Fire.{State, upTo, firedOf}
+use Rattle.model.specs.Laws.Marks.{holds}
 use Rattle.model.specs.Laws.Strata.{stratified}
 use Rattle.model.specs.Laws.Levels.{good-upTo}
 use Rattle.weight.specs.Cost.{costOf}
