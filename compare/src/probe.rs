@@ -78,10 +78,14 @@ fn digest(engine: &mut Engine, query: &Query) -> u64 {
 /// The calls put to a spoilt policy with a query, and the policy written with all queries.
 fn calls(policy: &Policy, query: &Query, queries: &[Query]) -> String {
     let mut engine = Engine::new(policy);
-    let (judge, choose) = (judge(&mut engine, query, 0), choose(&mut engine, query));
+    let (judge, fire) = (judge(&mut engine, query, 0), fire(&mut engine, query, 0));
+    let (choose, list) = (choose(&mut engine, query), list(&mut engine, query, 4));
     let (words, late) = (words(&mut engine, query, 0), words(&mut engine, query, TOP_W + 1));
     let (check, levels, write) = (number(check(policy)), levels(policy), write(policy, queries, LENT));
-    format!("check={check} judge {judge} choose {choose} words {words} late {late} {levels} write {write}")
+    format!(
+        "check={check} judge {judge} fire {fire} choose {choose} list {list} \
+         words {words} late {late} {levels} write {write}"
+    )
 }
 
 fn named(query: &Query) -> String {

@@ -16,8 +16,12 @@ fn line(name: &[u8], policy: Policy, query: Query, queries: Queries) {
     keyed(b" check=", engine::check(policy) as u32);
     text(b" judge ");
     calls::judge(policy, query, 0);
+    text(b" fire ");
+    calls::fire(policy, query, 0);
     text(b" choose ");
     calls::choose(policy, query);
+    text(b" list ");
+    calls::list(policy, query, 4);
     text(b" words ");
     calls::words(policy, query, 0);
     text(b" late ");
