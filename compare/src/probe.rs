@@ -80,12 +80,19 @@ fn calls(policy: &Policy, query: &Query, queries: &[Query]) -> String {
     let mut engine = Engine::new(policy);
     let (judge, fire) = (judge(&mut engine, query, 0), fire(&mut engine, query, 0));
     let (choose, list) = (choose(&mut engine, query), list(&mut engine, query, 4));
-    let (words, late) = (words(&mut engine, query, 0), words(&mut engine, query, TOP_W + 1));
+    let (words, late) = (words(&mut engine, query, 0), late(&mut engine, query));
     let (check, levels, write) = (number(check(policy)), levels(policy), write(policy, queries, LENT));
     format!(
-        "check={check} judge {judge} fire {fire} choose {choose} list {list} \
-         words {words} late {late} {levels} write {write}"
+        "check={check} judge {judge} fire {fire} choose {choose} list {list} words {words} {late} {levels} write {write}"
     )
+}
+
+/// The same with another reason to refuse: a w out of range, a set that shares with done, a list with no place.
+fn late(engine: &mut Engine, query: &Query) -> String {
+    let shared = Query { want: query.want, done: 1 };
+    let (judge, fire) = (judge(engine, &shared, 1), fire(engine, &shared, 1));
+    let (words, short) = (words(engine, query, TOP_W + 1), list(engine, query, 0));
+    format!("late {words} shared judge {judge} fire {fire} short {short}")
 }
 
 fn named(query: &Query) -> String {

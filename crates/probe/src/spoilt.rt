@@ -9,6 +9,21 @@ use policy::Queries;
 use policy::Query;
 use policy::Rule;
 
+// Writes what the calls return where another question is answered no too: of w, which comes before 4 to 6, of a set that shares
+// with done, and of a list with no place, which come after them.
+fn late(policy: Policy, query: Query) {
+    text(b" late ");
+    calls::words(policy, query, 1024);
+    let mut shared = query;
+    shared.done = 1;
+    text(b" shared judge ");
+    calls::judge(policy, shared, 1);
+    text(b" fire ");
+    calls::fire(policy, shared, 1);
+    text(b" short ");
+    calls::list(policy, query, 0);
+}
+
 // Writes the line of a spoilt policy.
 fn line(name: &[u8], policy: Policy, query: Query, queries: Queries) {
     text(b"spoilt ");
@@ -24,8 +39,7 @@ fn line(name: &[u8], policy: Policy, query: Query, queries: Queries) {
     calls::list(policy, query, 4);
     text(b" words ");
     calls::words(policy, query, 0);
-    text(b" late ");
-    calls::words(policy, query, 1024);
+    late(policy, query);
     text(b" levels ");
     calls::levels(policy);
     text(b" write ");
