@@ -1,6 +1,6 @@
 //! Runs the files of a seed through a program and through the engine here, and compares what they print.
 
-use crate::generate::{file, levels_file, words_file};
+use crate::generate::{file, is_valid, levels_file, words_file};
 use crate::keep::ways_agree;
 use crate::levels::{is_lowest, levels, lowest, MOST_TRIED};
 use crate::longest::{longest, sets_of};
@@ -14,11 +14,22 @@ use std::path::Path;
 use std::process::{Command, Stdio};
 use std::{fs, io};
 
-const MOST_DIFFERENCES: usize = 10;
+/// The files that a part takes: what stands before their names where they are kept, and how they are made.
+struct Kind {
+    name: &'static str,
+    make: fn(u64, u64) -> Vec<u8>,
+}
 
-/// The differences of a run over the files of a seed. Each part of the run prints a line on the files that it took.
+const ANY: Kind = Kind { name: "", make: file };
+const FOR_LEVELS: Kind = Kind { name: "levels-", make: levels_file };
+const FOR_WORDS: Kind = Kind { name: "words-", make: words_file };
+
+/// The differences of a run over the files of a seed, up to the most with which it goes on. Each part of the run prints
+/// a line on the files that it took. A file is compared first; then it is seen that the engine here is right, where
+/// that can be told in another way.
 pub struct Comparison {
     seed: u64,
+    most: usize,
     differences: usize,
 }
 
@@ -27,26 +38,27 @@ pub struct Comparison {
 struct Tally(BTreeMap<String, u64>);
 
 impl Comparison {
-    pub fn new(seed: u64) -> Self {
-        Comparison { seed, differences: 0 }
+    pub fn new(seed: u64, most: usize) -> Self {
+        Comparison { seed, most, differences: 0 }
     }
 
-    /// The first files of the seed, by what `clear` prints. No query has more slim sets than there are sets of half of
-    /// the actions. With no unless entry there is nothing to keep off, and both ways to a keep-off mask agree.
+    /// The first files of the seed, by what `clear` prints. Those made to be valid are accepted. No query has more slim
+    /// sets than there are sets of half of the actions. With no unless entry there is nothing to keep off, and both ways
+    /// to a keep-off mask agree.
     pub fn clear(&mut self, program: &str, count: u64) -> io::Result<()> {
         let (mut queries, mut none, mut most, mut kept) = (0, 0, 0, 0);
-        let tally = self.each("", program, file, 0..count, |number, input| {
-            let due = run(input);
+        let tally = self.each(&ANY, program, 0..count, run, |number, input, due| {
             queries += due.matches("want=").count();
             none += due.matches("best=none").count();
             if let Ok((policy, asked)) = read(input) {
-                let (slim, actions, keeping) = (most_slim(&due), policy.actions.len(), keeping(&due));
+                let (slim, actions, keeping) = (most_slim(due), policy.actions.len(), keeping(due));
                 assert!(slim <= sets_of(actions / 2, actions).len(), "file {number} has more slim sets");
                 assert!(keeping == 0 || policy.has_unless(), "file {number} has something to keep off");
                 assert!(ways_agree(&policy, &asked), "file {number} has another keep-off mask");
                 (most, kept) = (most.max(slim), kept + keeping);
+            } else {
+                assert!(!is_valid(number), "file {number} is valid and refused");
             }
-            due
         })?;
         let (text, bests) = (tally.text(), format!("{none} with none, {kept} with actions to keep off"));
         self.tell(&format!("clear: {text}, {queries} queries, {bests}, at most {most} slim sets"));
@@ -61,18 +73,17 @@ impl Comparison {
             Err(_) => number % 5 == 0,
         };
         let numbers = (0..).filter(meant).take(count as usize);
-        let tally = self.each("", program, file, numbers, |_, input| probe(input))?;
+        let tally = self.each(&ANY, program, numbers, probe, |_, _, _| ())?;
         self.tell(&format!("probe: {}", tally.text()));
         Ok(())
     }
 
-    /// The first files for the words, by what the probe prints.
+    /// The first files for the words, by what the probe prints. All are made to be valid, and are accepted.
     pub fn words(&mut self, program: &str, count: u64) -> io::Result<()> {
         let mut queries = 0;
-        let tally = self.each("words-", program, words_file, 0..count, |_, input| {
-            let due = probe(input);
+        let tally = self.each(&FOR_WORDS, program, 0..count, probe, |number, _, due| {
+            assert!(!due.starts_with("refused="), "file {number} for the words is refused");
             queries += due.matches("query ").count();
-            due
         })?;
         self.tell(&format!("words: {}, {queries} queries", tally.text()));
         Ok(())
@@ -82,37 +93,35 @@ impl Comparison {
     /// levels is tried to see that the engine here is right.
     pub fn levels(&mut self, program: &str, count: u64) -> io::Result<()> {
         let mut tried = 0;
-        let tally = self.each("levels-", program, levels_file, 0..count, |number, input| {
-            match read_lines(input) {
-                Ok((policy, _)) if policy.levels.len() <= MOST_TRIED => {
-                    assert!(is_lowest(&policy, &lowest(&policy)), "file {number} for the levels has others");
-                    tried += 1;
-                }
-                _ => {}
+        let tally = self.each(&FOR_LEVELS, program, 0..count, levels, |number, input, _| match read_lines(input) {
+            Ok((policy, _)) if policy.levels.len() <= MOST_TRIED => {
+                assert!(is_lowest(&policy, &lowest(&policy)), "file {number} for the levels has others");
+                tried += 1;
             }
-            levels(input)
+            _ => {}
         })?;
         self.tell(&format!("levels: {}, {tried} with each assignment tried", tally.text()));
         Ok(())
     }
 
-    /// Files of the seed by their numbers, by what is due for each.
+    /// Files of the seed by their numbers, by what is due for each; and what is done with each after it was compared.
     fn each(
         &mut self,
-        kind: &str,
+        kind: &Kind,
         program: &str,
-        make: fn(u64, u64) -> Vec<u8>,
         numbers: impl Iterator<Item = u64>,
-        mut due: impl FnMut(u64, &[u8]) -> String,
+        due: fn(&[u8]) -> String,
+        mut after: impl FnMut(u64, &[u8], &str),
     ) -> io::Result<Tally> {
         let mut tally = Tally::default();
         for number in numbers {
-            let input = make(self.seed, number);
-            let due = due(number, &input);
+            let input = (kind.make)(self.seed, number);
+            let due = due(&input);
             tally.count(&due);
-            if self.differs(kind, number, &input, &output(program, &[], &input)?, &due)? {
+            if self.differs(kind.name, number, &input, &output(program, &[], &input)?, &due)? {
                 break;
             }
+            after(number, &input, &due);
         }
         Ok(tally)
     }
@@ -132,11 +141,12 @@ impl Comparison {
         for number in (0..).filter(meant).take(count as usize) {
             let input = levels_file(seed, number);
             let due = run(&with_levels(&input, &levels(&input)));
-            assert!(!due.starts_with("refused=") || due == "refused=6\n", "file {number} for the levels is not mended");
             tally.count(&due);
             let found = String::from_utf8_lossy(&output(program, &[], &input)?).into_owned();
             let mended = with_levels(&input, &found);
             let mut stop = self.differs("mended-", number, &mended, &output(clear, &[], &mended)?, &due)?;
+            let refused = due.starts_with("refused=") && due != "refused=6\n";
+            assert!(stop || !refused, "file {number} for the levels is not mended");
             let before = String::from_utf8_lossy(&output(clear, &[], &input)?).into_owned();
             if !before.starts_with("refused=") {
                 compared += 1;
@@ -155,16 +165,14 @@ impl Comparison {
     /// given back, by the engine here too.
     pub fn rewrite(&mut self, program: &str, count: u64) -> io::Result<()> {
         let mut longest = 0;
-        let mut due = |number: u64, input: &[u8]| {
-            let due = rewrite(input);
+        let mut after = |number: u64, input: &[u8], due: &str| {
             if !due.starts_with("refused=") {
                 assert!(due.as_bytes() == input, "file {number} is not given back");
                 longest = longest.max(input.len());
             }
-            due
         };
-        let mut tally = self.each("", program, file, 0..count, &mut due)?;
-        tally.add(self.each("levels-", program, levels_file, 0..count, &mut due)?);
+        let mut tally = self.each(&ANY, program, 0..count, rewrite, &mut after)?;
+        tally.add(self.each(&FOR_LEVELS, program, 0..count, rewrite, &mut after)?);
         self.tell(&format!("rewrite: {}, the longest accepted {longest} bytes", tally.text()));
         Ok(())
     }
@@ -174,11 +182,12 @@ impl Comparison {
     pub fn longest(&mut self, program: &str, clear: &str, prober: &str) -> io::Result<()> {
         let (file, sets) = (longest(), sets_of(8, 16));
         let answers = run(&file);
-        let (counted, listed) = (format!("slim={}", sets.len()), format!("list={}", commas(&sets)));
-        assert!([counted, listed].iter().all(|due| answers.lines().any(|line| line == due)), "other sets are listed");
-        self.differs("longest-", 0, &file, &output(program, &[], b"")?, &String::from_utf8_lossy(&file))?;
-        self.differs("longest-", 1, &file, &output(clear, &[], &file)?, &answers)?;
-        self.differs("longest-", 2, &file, &output(prober, &[], &file)?, &probe(&file))?;
+        let stop = self.differs("longest-", 0, &file, &output(program, &[], b"")?, &String::from_utf8_lossy(&file))?
+            || self.differs("longest-", 1, &file, &output(clear, &[], &file)?, &answers)?
+            || self.differs("longest-", 2, &file, &output(prober, &[], &file)?, &probe(&file))?;
+        let listed = [format!("slim={}", sets.len()), format!("list={}", commas(&sets))];
+        let all_due = listed.iter().all(|due| answers.lines().any(|line| line == due));
+        assert!(stop || all_due, "other sets are listed");
         self.tell(&format!("longest: {} bytes, {} sets listed", file.len(), sets.len()));
         Ok(())
     }
@@ -203,7 +212,7 @@ impl Comparison {
             fs::write(folder.join(&name), input)?;
             println!("compare/differences/{name}: {}", first_difference(printed, due));
         }
-        Ok(self.differences >= MOST_DIFFERENCES)
+        Ok(self.differences >= self.most)
     }
 }
 

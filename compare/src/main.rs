@@ -1,4 +1,4 @@
-//! An engine outside the proofs, written from the documents and run against the proved one.
+//! An engine outside the proofs, which does what the documents say, and is run against the proved one.
 
 mod asp;
 mod bench;
@@ -42,8 +42,12 @@ const USAGE: &str = "usage: compare run                    what clear prints for
        compare compare SEED PART ...  each part one of: clear CLEAR COUNT, probe PROBE COUNT,
                                       words PROBE COUNT, levels LEVELS COUNT, mended LEVELS CLEAR COUNT,
                                       rewrite REWRITE COUNT, longest LONGEST CLEAR PROBE
+       compare first SEED PART ...    the same, up to the first difference
        compare bench CLEAR LEVELS REWRITE [BEFORE]
                                       times of hard files; BEFORE is an earlier build of clear";
+
+/// With so many differences a comparison ends.
+const MOST_DIFFERENCES: usize = 10;
 
 fn main() -> ExitCode {
     let arguments: Vec<String> = std::env::args().skip(1).collect();
@@ -78,10 +82,9 @@ fn work(arguments: &[&str]) -> io::Result<bool> {
             io::stdout().write_all(&generate::words_file(parse(seed)?, parse(number)?))?;
         }
         ["compare", seed, ref parts @ ..] => {
-            let mut comparison = Comparison::new(parse(seed)?);
-            compare_parts(&mut comparison, parts)?;
-            return Ok(comparison.end() == 0);
+            return compare_parts(Comparison::new(parse(seed)?, MOST_DIFFERENCES), parts)
         }
+        ["first", seed, ref parts @ ..] => return compare_parts(Comparison::new(parse(seed)?, 1), parts),
         ["bench", clear, levels, rewrite] => bench::bench(clear, levels, rewrite, None)?,
         ["bench", clear, levels, rewrite, before] => bench::bench(clear, levels, rewrite, Some(before))?,
         _ => return Err(usage()),
@@ -89,7 +92,8 @@ fn work(arguments: &[&str]) -> io::Result<bool> {
     Ok(true)
 }
 
-fn compare_parts(comparison: &mut Comparison, mut parts: &[&str]) -> io::Result<()> {
+/// True when there was no difference.
+fn compare_parts(mut comparison: Comparison, mut parts: &[&str]) -> io::Result<bool> {
     while !parts.is_empty() {
         parts = match *parts {
             ["clear", clear, count, ref rest @ ..] => {
@@ -123,7 +127,7 @@ fn compare_parts(comparison: &mut Comparison, mut parts: &[&str]) -> io::Result<
             _ => return Err(usage()),
         };
     }
-    Ok(())
+    Ok(comparison.end() == 0)
 }
 
 fn input() -> io::Result<Vec<u8>> {
