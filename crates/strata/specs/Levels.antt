@@ -40,7 +40,7 @@ module _ (p : Policy) where
     pub nine : (r .refusal ≡ 9) ↔ (T (othersInRange p) × T (listsRise p) × ((level : List ℕ) → T (small level) → T (fits level) → ⊥))
     pub zeros : r .refusal ≢ 0 → r .level ≡ replicate 128 0
 
--- ---- how they are found
+-- ---- how it is computed, which need not be believed: `FindsLevels` says all of the answer
 
 -- the lowest level, from `own` up, that lies at least `step` above that of each decision listed
 unfoldable pub above : List ℕ → ℕ → ℕ → List ℕ → ℕ

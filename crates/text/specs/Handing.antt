@@ -23,6 +23,8 @@ module _ (texts : List (List ℕ)) (i : ℕ) where
   Hands before after (Length n) =
       (i < length texts) × (n ≡ length (part (length before))) × (take n after ≡ part (length before)) × (drop n after ≡ drop n before)
 
+  -- ---- how it is computed, which need not be believed: `Hands` says all of it
+
   -- what the call returns with a buffer of so many bytes, and what the buffer holds afterwards
   unfoldable pub handedOut : ℕ → Printed
   handedOut places = elim (ltb i (length texts)) [ true ↦ Length (length (part places)) | false ↦ Nothing ]

@@ -9,6 +9,9 @@ use Rattle.policy.specs.declared.Query.{Query}
 use Rattle.model.specs.Clears.{clears}
 use Rattle.weight.specs.Cost.{costOf}
 
+-- ---- how it is computed, which need not be believed: the engine's `Slim`, `Lists` and `Best` say what these are (`slim-iff`, `lists`,
+-- `best-found`)
+
 module _ (p : Policy) (q : Query) where
   -- s is slim (subset-minimal): it clears and no proper subset of it does
   unfoldable pub slim : ℕ → Bool
