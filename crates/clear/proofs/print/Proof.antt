@@ -30,10 +30,10 @@ handed c =
     turn _ _ longestResult _ _ _ fits (turns .loop .inv) (call .clear .kept .1 .1 .0) (c .end .given .1) (call .clear .ensures .1 .1)
 
 slice-reshare-prefix-write : tie.Need-slice-reshare-prefix-write Inv-loop μ-loop
-slice-reshare-prefix-write c = handed (c .before) .within
+slice-reshare-prefix-write c = let t = handed (c .before) in omega (arith, t .within, t .long)
 
 slice-aggregate-write : tie.Need-slice-aggregate-write Inv-loop μ-loop
-slice-aggregate-write c = sym (length-take-le _ _ (handed (c .before .before) .within))
+slice-aggregate-write c = let t = handed (c .before .before) in sym (length-take-le _ _ (omega (arith, t .within, t .long)))
 
 write-requires : tie.Need-write-requires Inv-loop μ-loop
 write-requires c κs = handed (c .before .before) .same
