@@ -11,7 +11,7 @@ use Rattle.policy.specs.declared.Policy.{Policy}
 use Rattle.policy.specs.declared.Query.{Query}
 use Rattle.policy.specs.declared.Rule.{Rule}
 use Rattle.policy.specs.Record.{ruleOf, cutRule, cut, Agree}
-use Rattle.policy.specs.Questions.{firstNo, questions, queryInRange, inRange}
+use Rattle.policy.specs.Questions.{firstNo, questions, queryInRange, queriesInRange, inRange}
 use Rattle.policy.specs.Laws.{answers, accepted}
 use Rattle.policy.specs.Laws.Cut.{listed-cut, rule-cut, head-cut, weight-cut, others-cut, rise-cut, fit-with-cut, questions-cut}
 use Rattle.model.specs.Laws.Cut.{world-cut, fired-cut}
@@ -21,7 +21,7 @@ use Rattle.strata.specs.Laws.Levels.{rounds-same}
 use Rattle.words.specs.Models.{asking}
 use Rattle.words.specs.Laws.Alike.{model-alike}
 use Rattle.engine.specs.Calls.{answer, offerInRange, offerQuestions, firedFor, enough, clears, slimSets, best, listQuestions}
-use Rattle.engine.specs.Calls.{checkOf, judgeOf, fireOf, chooseOf, listOf, listAfter}
+use Rattle.engine.specs.Calls.{checkOf, checkRecordOf, judgeOf, fireOf, chooseOf, listOf, listAfter}
 use Rattle.engine.specs.Words.{wordQuestions, wordsOf}
 use Rattle.engine.specs.Same.{Ignored}
 use Rattle.engine.specs.Laws.Alike.{refused-same, slim-sets-alike, answer-alike}
@@ -128,9 +128,10 @@ module _ (p : Policy) where
 
   -- a record and the record without the entries past its counts
   pub cut-same : Ignored (cut p) p
-  unfolding checkOf
+  unfolding checkOf checkRecordOf queriesInRange queryInRange
   cut-same = record {
     check = asked-cut true;
+    checked = λ qs. asked-cut (queriesInRange p qs);
     levels = levels-cut p;
     answers = λ q. record {
       judge = judge-cut q;
@@ -150,6 +151,7 @@ module _ (p p′ : Policy) (e : Agree p p′) where
   pub ignored : Ignored p p′
   ignored = let a = cut-same p in let b = cut-same p′ in record {
     check = through checkOf (a .check) (b .check);
+    checked = λ qs. through (λ r. checkRecordOf r qs) (a .checked qs) (b .checked qs);
     levels = through foundLevels (a .levels) (b .levels);
     answers = λ q. let c = a .answers q in let d = b .answers q in record {
       judge = λ s. through (λ r. judgeOf r q s) (c .judge s) (d .judge s);
