@@ -1,8 +1,8 @@
 -- `printing::put_rewritten` meets its contract: a refusal is put, or the file is written; and either is the text for the file.
 use Prim.Native.Nat.{ℕ}
-use mathlib.Core.Path.{subst, sym}
+use mathlib.Core.Path.{_≡_, subst, sym}
 use borrow.Author.Needs.{needs}
-use lib.ListN.{length-replicate}
+use lib.ListN.{length, replicate, length-replicate}
 use lib.Seq.{length-take-le}
 use Rattle.format.specs.Bounds.{longestFile}
 use Rattle.text.specs.Laws.Putting.{same-text}
@@ -28,12 +28,16 @@ slice-aggregate-put c =
     let told = subst (Writes _ _ _ _) (c .before .before .before .written2 .given .1) (write .ensures .1 .1) in
     sym (length-take-le _ (write .last .1 .1 .0) (ends-within _ _ _ _ _ (write .kept .1 .1 .0) told))
 
+-- the buffer that the writer is lent
+long : length (replicate {A = ℕ} longestFile 0) ≡ longestFile
+long = length-replicate {A = ℕ} longestFile 0
+
 returns-2 : tie.Need-returns-2
 returns-2 c =
     let write = c .before .before .before .before .before .before .before .before in
     let draft = write .before .before .before .before .before .before in
     same-text (c .before .before .refusal2 .ensures)
-    (write-refused _ (draft .draft .ensures .0) (write .before .before .before .before .if1 .left) _ _ (length-replicate {A = ℕ} longestFile 0)
+    (write-refused _ (draft .draft .ensures .0) (write .before .before .before .before .if1 .left) _ _ long
     (subst (Writes _ _ _ _) (c .before .before .before .before .before .written .given .1) (write .write .ensures .1 .1)))
 
 returns-3 : tie.Need-returns-3
@@ -41,7 +45,7 @@ returns-3 c =
     let write = c .before .before .before .before .before .before .before .before .before in
     let draft = write .before .before .before .before .before .before in
     same-text (c .before .before .put .ensures)
-    (file-written _ (draft .draft .ensures .0) (write .before .before .before .before .if1 .left) _ _ (length-replicate {A = ℕ} longestFile 0)
+    (file-written _ (draft .draft .ensures .0) (write .before .before .before .before .if1 .left) _ _ long
     (subst (Writes _ _ _ _) (c .before .before .before .before .before .before .written2 .given .1) (write .write .ensures .1 .1)))
 
 pub put-rewritten-spec : {M : Type 1} → statement M
