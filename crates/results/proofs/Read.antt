@@ -1,26 +1,17 @@
 -- The texts of `clear` for a file by what the reader returns.
-use Prim.Native.Nat.{ℕ, zero, suc, _≤_, _<_, min}
+use Prim.Native.Nat.{ℕ, _≤_, _<_, min}
 use mathlib.Core.List.{List, [], _∷_, map}
-use mathlib.Core.Path.{_≡_, refl, sym, _∙_, ap, subst}
-use native.Mathlib.Omega.{arith}
-use lib.ListN.{length, getD, take, length-map, length-take}
-use lib.Seq.{getD-take}
+use mathlib.Core.Path.{_≡_, sym, _∙_, ap, subst}
+use lib.ListN.{length, getD, take}
 use Rattle.policy.specs.Record.{zeroQuery}
 use Rattle.engine.specs.Laws.Refusals.{answered, refused}
 use Rattle.text.specs.Put.{Puts, refusedText}
-use Rattle.text.specs.Laws.Putting.{same-text}
 use Rattle.reader.specs.declared.Reading.{Reading}
 use Rattle.reader.specs.File.{readOf}
 use Rattle.results.specs.Printed.{resultText, readingTexts, clearTexts}
 use Rattle.text.specs.declared.Printed.{Printed}
 use Rattle.text.specs.declared.Printed.the-variants.{Length, Nothing}
-use Rattle.text.specs.Laws.Handed.{Promised, text-put, none-left, only-put, only-once}
-
--- the entry at i of a list with f of each entry
-map-at : {A B : Type 0} (f : A → B) (d : A) (e : B) (l : List A) (i : ℕ) → i < length l → getD (map f l) i e ≡ f (getD l i d)
-map-at f d e [] i h = absurd (omega arith)
-map-at f d e (x ∷ l) zero h = refl
-map-at f d e (x ∷ l) (suc i) h = map-at f d e l i (omega arith)
+use Rattle.text.specs.Laws.Handed.{Promised, only-put, only-once, each-over, each-put}
 
 module _ (s : List ℕ) {r : Reading} (read : r ≡ readOf s) where
   refused-texts : ¬ (r .refusal ≡ 0) → refusedText (r .refusal) ∷ [] ≡ clearTexts s
@@ -48,21 +39,12 @@ module _ (s : List ℕ) {r : Reading} (read : r ≡ readOf s) where
 
     -- or it has this many queries
     module _ (none : r .refusal ≡ 0) (long : length (r .queries .at) ≡ 64) (end : ℕ) (held : end ≡ min (r .queries .count) 64) where
-      count : length (map (resultText (r .policy)) (take (r .queries .count) (r .queries .at))) ≡ end
-      count =
-          length-map (take (r .queries .count) (r .queries .at)) (resultText (r .policy))
-          ∙ omega (arith, length-take (r .queries .count) (r .queries .at))
-
       pub queries-over : end ≤ i → Promised (clearTexts s) i before before Nothing
-      queries-over over = promised (query-texts none) before Nothing (none-left _ i before (omega (arith, count)))
+      queries-over over = promised (query-texts none) before Nothing
+          (each-over (resultText (r .policy)) (r .queries .at) (r .queries .count) long held i before over)
 
       pub query-put : {after : List ℕ} {n : ℕ} → i < end
           → Puts before 0 (resultText (r .policy) (getD (r .queries .at) i zeroQuery)) after n
           → Promised (clearTexts s) i before after (Length n)
-      query-put {after} {n} under put =
-          let queries = take (r .queries .count) (r .queries .at) in
-          let here = map-at (resultText (r .policy)) zeroQuery [] queries i
-          (omega (arith, length-take (r .queries .count) (r .queries .at))) in
-          let same = ap (resultText (r .policy)) (getD-take (r .queries .count) (r .queries .at) i zeroQuery (omega arith)) in
-          promised (query-texts none) after (Length n)
-          (text-put _ i before (omega (arith, count)) (same-text put (sym (here ∙ same))))
+      query-put {after} {n} under put = promised (query-texts none) after (Length n)
+          (each-put (resultText (r .policy)) (r .queries .at) (r .queries .count) long held i before zeroQuery under put)

@@ -12,7 +12,7 @@ use Rattle.engine.specs.declared.Choice.{Choice}
 use Rattle.engine.specs.declared.Firing.{Firing}
 use Rattle.engine.specs.declared.Answer.{Answer}
 use Rattle.engine.specs.declared.Answer.the-variants.{None, Chosen}
-use Rattle.engine.specs.Calls.{refusedOr, firedFor, slimSets, chooseOf, fireOf}
+use Rattle.engine.specs.Calls.{refusedOr, firedFor, slimSets, chooseOf}
 use Rattle.engine.specs.Cases.Run.{run, tested}
 use Rattle.engine.specs.Laws.{claim-holds, not-to-touch}
 use Rattle.format.specs.Text.{ascii, decimal, decimalBy}

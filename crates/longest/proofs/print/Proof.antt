@@ -1,5 +1,5 @@
 -- `longest::print` meets its contract: the text that it writes is whole, and there is one.
-use Prim.Native.Nat.{ℕ, _-_}
+use Prim.Native.Nat.{_-_}
 use mathlib.Core.Path.{_≡_, sym}
 use native.Mathlib.Omega.{arith}
 use borrow.Author.Needs.{needs}

@@ -26,7 +26,7 @@ use Rattle.writer.specs.Claim.{AcceptedRecord}
 use Rattle.writer.specs.Laws.Saved.{short, reads-written}
 use Rattle.text.specs.Handing.{textAt}
 use Rattle.printing.specs.Texts.{longestText, longestTexts}
-use Rattle.printing.specs.Laws.Fits.{only-fits}
+use Rattle.text.specs.Laws.Handed.{only-fits}
 
 -- ---- the arrays are as long as their structs declare
 eights : Rule → Bool

@@ -1,6 +1,6 @@
 -- No text is longer than its bound.
-use Prim.Native.Nat.{ℕ, zero, suc, _≤_, zero-le}
-use mathlib.Core.List.{List, [], _∷_}
+use Prim.Native.Nat.{ℕ, _≤_}
+use mathlib.Core.List.{List}
 use mathlib.Core.Path.{_≡_, refl, _∙_, ap}
 use native.Mathlib.Decide.{ℕ-discrete}
 use native.Mathlib.Omega.{arith}
@@ -16,6 +16,7 @@ use Rattle.format.specs.Laws.Lengths.{ten-digits, line-length, each-length}
 use Rattle.text.specs.Put.{refusedText}
 use Rattle.text.specs.Handing.{textAt}
 use Rattle.text.specs.Laws.Entries.{refused-length}
+use Rattle.text.specs.Laws.Handed.{only-fits}
 use Rattle.reader.specs.declared.Reading.{Reading}
 use Rattle.reader.specs.File.{draftOf, readOf}
 use Rattle.reader.specs.Laws.Files.{draft-of-accepted}
@@ -29,11 +30,6 @@ either-fits size n text room fits = elim (ℕ-discrete n 0) [
   | yes none ↦ rw (answered n refusedText text none) (fits none)
   | no some ↦ rw (refused n refusedText text some) (omega (arith, refused-length n))
 ]
-
--- one text alone
-pub only-fits : (size : ℕ) (text : List ℕ) (i : ℕ) → length text ≤ size → length (textAt (text ∷ []) i) ≤ size
-only-fits size text zero h = h
-only-fits size text (suc i) h = zero-le
 
 -- ---- levels
 level-length : (l : ℕ) → length (levelText l) ≤ 17

@@ -1,36 +1,27 @@
 -- No text of a file is longer than 80,000 bytes, and no file has more than 64.
-use Prim.Native.Nat.{ℕ, zero, suc, _≤_, zero-le}
+use Prim.Native.Nat.{ℕ, _≤_}
 use mathlib.Core.List.{List, [], _∷_, map}
 use native.Mathlib.Decide.{ℕ-discrete}
 use native.Mathlib.Omega.{arith}
-use lib.ListN.{length, getD, take, length-take, length-map}
-use Rattle.policy.specs.declared.Policy.{Policy}
-use Rattle.policy.specs.declared.Query.{Query}
+use lib.ListN.{length, take, length-take, length-map}
 use Rattle.engine.specs.Laws.Refusals.{answered, refused}
 use Rattle.text.specs.Put.{refusedText}
 use Rattle.text.specs.Handing.{textAt}
 use Rattle.text.specs.Laws.Entries.{refused-length}
+use Rattle.text.specs.Laws.Handed.{only-fits, each-fits}
 use Rattle.reader.specs.declared.Reading.{Reading}
 use Rattle.reader.specs.File.{readOf}
 use Rattle.reader.specs.Laws.States.{states}
 use Rattle.results.specs.Printed.{longestResult, resultText, readingTexts, clearTexts}
 use Rattle.results.specs.Laws.Fits.{text-fits}
 
-results-fit : (p : Policy) (qs : List Query) (i : ℕ) → length (getD (map (resultText p) qs) i []) ≤ longestResult
-results-fit p [] i = zero-le
-results-fit p (q ∷ qs) zero = text-fits p q
-results-fit p (q ∷ qs) (suc i) = results-fit p qs i
-
-refusal-fits : (n i : ℕ) → length (getD (refusedText n ∷ []) i []) ≤ longestResult
-refusal-fits n zero = omega (arith, refused-length n)
-refusal-fits n (suc i) = zero-le
-
 reading-fits : (r : Reading) (i : ℕ) → length (textAt (readingTexts r) i) ≤ longestResult
 unfolding readingTexts
 reading-fits r i = elim (ℕ-discrete (r .refusal) 0) [
   | yes none ↦ rw (answered (r .refusal) (λ n. refusedText n ∷ []) _ none)
-      (results-fit (r .policy) (take (r .queries .count) (r .queries .at)) i)
-  | no some ↦ rw (refused (r .refusal) (λ n. refusedText n ∷ []) _ some) (refusal-fits (r .refusal) i)
+      (each-fits longestResult (resultText (r .policy)) (text-fits (r .policy)) (take (r .queries .count) (r .queries .at)) i)
+  | no some ↦ rw (refused (r .refusal) (λ n. refusedText n ∷ []) _ some)
+      (only-fits longestResult (refusedText (r .refusal)) i (omega (arith, refused-length (r .refusal))))
 ]
 
 pub clear-fits : (s : List ℕ) (i : ℕ) → length (textAt (clearTexts s) i) ≤ longestResult
