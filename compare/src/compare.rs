@@ -1,18 +1,21 @@
 //! Runs the files of a seed through a program and through the engine here, and compares what they print.
 
+use crate::effect::effects;
 use crate::generate::{file, is_valid, levels_file, words_file};
 use crate::keep::ways_agree;
 use crate::levels::{is_lowest, levels, lowest, MOST_TRIED};
 use crate::longest::{longest, sets_of};
+use crate::pairs::pair;
 use crate::probe::probe;
 use crate::reader::{read, read_lines};
+use crate::reprice::{pairprobe, reprice};
 use crate::run::{commas, run};
 use crate::writer::rewrite;
 use std::collections::BTreeMap;
 use std::io::Write as _;
 use std::path::Path;
-use std::process::{Command, Stdio};
-use std::{fs, io};
+use std::process::{self, Command, Stdio};
+use std::{env, fs, io};
 
 /// The files that a part takes: what stands before their names where they are kept, and how they are made.
 struct Kind {
@@ -33,7 +36,7 @@ pub struct Comparison {
     differences: usize,
 }
 
-/// How many files were refused by each number, and by none.
+/// How many files, or pairs of files, were refused by each number, and by none.
 #[derive(Default)]
 struct Tally(BTreeMap<String, u64>);
 
@@ -60,7 +63,7 @@ impl Comparison {
                 assert!(!is_valid(number), "file {number} is valid and refused");
             }
         })?;
-        let (text, bests) = (tally.text(), format!("{none} with none, {kept} with actions to keep off"));
+        let (text, bests) = (tally.text("files"), format!("{none} with none, {kept} with actions to keep off"));
         self.tell(&format!("clear: {text}, {queries} queries, {bests}, at most {most} slim sets"));
         Ok(())
     }
@@ -74,7 +77,7 @@ impl Comparison {
         };
         let numbers = (0..).filter(meant).take(count as usize);
         let tally = self.each(&ANY, program, numbers, probe, |_, _, _| ())?;
-        self.tell(&format!("probe: {}", tally.text()));
+        self.tell(&format!("probe: {}", tally.text("files")));
         Ok(())
     }
 
@@ -85,7 +88,7 @@ impl Comparison {
             assert!(!due.starts_with("refused="), "file {number} for the words is refused");
             queries += due.matches("query ").count();
         })?;
-        self.tell(&format!("words: {}, {queries} queries", tally.text()));
+        self.tell(&format!("words: {}, {queries} queries", tally.text("files")));
         Ok(())
     }
 
@@ -100,7 +103,7 @@ impl Comparison {
             }
             _ => {}
         })?;
-        self.tell(&format!("levels: {}, {tried} with each assignment tried", tally.text()));
+        self.tell(&format!("levels: {}, {tried} with each assignment tried", tally.text("files")));
         Ok(())
     }
 
@@ -118,7 +121,7 @@ impl Comparison {
             let input = (kind.make)(self.seed, number);
             let due = due(&input);
             tally.count(&due);
-            if self.differs(kind.name, number, &input, &output(program, &[], &input)?, &due)? {
+            if self.differs(kind.name, number, &[&input], &output(program, &[], &input)?, &due)? {
                 break;
             }
             after(number, &input, &due);
@@ -144,20 +147,20 @@ impl Comparison {
             tally.count(&due);
             let found = String::from_utf8_lossy(&output(program, &[], &input)?).into_owned();
             let mended = with_levels(&input, &found);
-            let mut stop = self.differs("mended-", number, &mended, &output(clear, &[], &mended)?, &due)?;
+            let mut stop = self.differs("mended-", number, &[&mended], &output(clear, &[], &mended)?, &due)?;
             let refused = due.starts_with("refused=") && due != "refused=6\n";
             assert!(stop || !refused, "file {number} for the levels is not mended");
             let before = String::from_utf8_lossy(&output(clear, &[], &input)?).into_owned();
             if !before.starts_with("refused=") {
                 compared += 1;
                 let [before, due] = [before, due].map(|answers| but_lines(&answers, "fired="));
-                stop = self.differs("levels-", number, &input, before.as_bytes(), &due)?;
+                stop = self.differs("levels-", number, &[&input], before.as_bytes(), &due)?;
             }
             if stop {
                 break;
             }
         }
-        self.tell(&format!("mended: {}, {compared} accepted before", tally.text()));
+        self.tell(&format!("mended: {}, {compared} accepted before", tally.text("files")));
         Ok(())
     }
 
@@ -173,7 +176,7 @@ impl Comparison {
         };
         let mut tally = self.each(&ANY, program, 0..count, rewrite, &mut after)?;
         tally.add(self.each(&FOR_LEVELS, program, 0..count, rewrite, &mut after)?);
-        self.tell(&format!("rewrite: {}, the longest accepted {longest} bytes", tally.text()));
+        self.tell(&format!("rewrite: {}, the longest accepted {longest} bytes", tally.text("files")));
         Ok(())
     }
 
@@ -182,14 +185,51 @@ impl Comparison {
     pub fn longest(&mut self, program: &str, clear: &str, prober: &str) -> io::Result<()> {
         let (file, sets) = (longest(), sets_of(8, 16));
         let answers = run(&file);
-        let stop = self.differs("longest-", 0, &file, &output(program, &[], b"")?, &String::from_utf8_lossy(&file))?
-            || self.differs("longest-", 1, &file, &output(clear, &[], &file)?, &answers)?
-            || self.differs("longest-", 2, &file, &output(prober, &[], &file)?, &probe(&file))?;
+        let stop =
+            self.differs("longest-", 0, &[&file], &output(program, &[], b"")?, &String::from_utf8_lossy(&file))?
+                || self.differs("longest-", 1, &[&file], &output(clear, &[], &file)?, &answers)?
+                || self.differs("longest-", 2, &[&file], &output(prober, &[], &file)?, &probe(&file))?;
         let listed = [format!("slim={}", sets.len()), format!("list={}", commas(&sets))];
         let all_due = listed.iter().all(|due| answers.lines().any(|line| line == due));
         assert!(stop || all_due, "other sets are listed");
         self.tell(&format!("longest: {} bytes, {} sets listed", file.len(), sets.len()));
         Ok(())
+    }
+
+    /// The first pairs of the seed, by what `reprice` prints.
+    pub fn reprice(&mut self, program: &str, count: u64) -> io::Result<()> {
+        let text = self.each_pair(program, count, reprice)?;
+        self.tell(&format!("reprice: {text}"));
+        Ok(())
+    }
+
+    /// The first pairs of the seed, by what `pairprobe` prints.
+    pub fn pairprobe(&mut self, program: &str, count: u64) -> io::Result<()> {
+        let text = self.each_pair(program, count, pairprobe)?;
+        self.tell(&format!("pairprobe: {text}"));
+        Ok(())
+    }
+
+    /// So many pairs of the seed, by what is due for each; and how the costs of those that are accepted and comparable
+    /// follow the weight.
+    fn each_pair(&mut self, program: &str, count: u64, due: fn(&[u8], &[u8]) -> String) -> io::Result<String> {
+        let (mut tally, mut apart, mut costs) = (Tally::default(), 0, BTreeMap::new());
+        for number in 0..count {
+            let [before, after] = pair(self.seed, number);
+            let due = due(&before, &after);
+            tally.count(&due);
+            apart += u64::from(due.starts_with("not comparable") || due.starts_with("comparable=0"));
+            let printed = output_for_pair(program, &before, &after)?;
+            if self.differs("pair-", number, &[&before, &after], &printed, &due)? {
+                break;
+            }
+            for effect in effects(&before, &after) {
+                let effect = effect.unwrap_or_else(|| panic!("a cost of pair {number} does not follow the weight"));
+                *costs.entry(effect).or_insert(0) += 1;
+            }
+        }
+        let costs: Vec<String> = costs.iter().map(|(effect, count)| format!("{count} {effect}")).collect();
+        Ok(format!("{}, {apart} not comparable; costs: {}", tally.text("pairs"), costs.join(", ")))
     }
 
     /// Prints the number of differences, and returns it.
@@ -202,15 +242,17 @@ impl Comparison {
         println!("compare: seed {}, {text}", self.seed);
     }
 
-    /// Tells of a difference and keeps the file. True when there were too many to go on.
-    fn differs(&mut self, kind: &str, number: u64, input: &[u8], printed: &[u8], due: &str) -> io::Result<bool> {
+    /// Tells of a difference and keeps the file, or both of a pair. True when there were too many to go on.
+    fn differs(&mut self, kind: &str, number: u64, inputs: &[&[u8]], printed: &[u8], due: &str) -> io::Result<bool> {
         if printed != due.as_bytes() {
             self.differences += 1;
             let folder = Path::new(env!("CARGO_MANIFEST_DIR")).join("differences");
-            let name = format!("{kind}{}-{number}.policy", self.seed);
+            let name = format!("{kind}{}-{number}", self.seed);
             fs::create_dir_all(&folder)?;
-            fs::write(folder.join(&name), input)?;
-            println!("compare/differences/{name}: {}", first_difference(printed, due));
+            for (input, which) in inputs.iter().zip(["", "-after"]) {
+                fs::write(folder.join(format!("{name}{which}.policy")), input)?;
+            }
+            println!("compare/differences/{name}.policy: {}", first_difference(printed, due));
         }
         Ok(self.differences >= self.most)
     }
@@ -228,8 +270,9 @@ impl Tally {
         }
     }
 
-    fn text(&self) -> String {
-        let mut text = format!("{} files", self.0.values().sum::<u64>());
+    /// The things are files, or pairs of files.
+    fn text(&self, things: &str) -> String {
+        let mut text = format!("{} {things}", self.0.values().sum::<u64>());
         for (number, count) in &self.0 {
             text += &match number.as_str() {
                 "0" => format!(", {count} accepted"),
@@ -294,4 +337,14 @@ pub fn output(program: &str, arguments: &[&str], input: &[u8]) -> io::Result<Vec
     } else {
         Ok(format!("{program} ended with {}", output.status).into_bytes())
     }
+}
+
+/// What a program prints that reads one file from standard input and the other from descriptor 3.
+fn output_for_pair(program: &str, before: &[u8], after: &[u8]) -> io::Result<Vec<u8>> {
+    let name = env::temp_dir().join(format!("after-{}.policy", process::id()));
+    fs::write(&name, after)?;
+    let path = name.to_str().expect("a name in text");
+    let printed = output("sh", &["-c", r#"exec "$0" 3<"$1""#, program, path], before);
+    fs::remove_file(&name)?;
+    printed
 }

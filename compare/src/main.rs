@@ -5,6 +5,7 @@ mod bench;
 mod clock;
 mod compare;
 mod edges;
+mod effect;
 mod engine;
 mod forms;
 mod generate;
@@ -13,10 +14,12 @@ mod keep;
 mod levels;
 mod longest;
 mod many;
+mod pairs;
 mod policy;
 mod probe;
 mod random;
 mod reader;
+mod reprice;
 mod rng;
 mod run;
 mod shapes;
@@ -26,6 +29,7 @@ mod words;
 mod writer;
 
 use compare::Comparison;
+use std::fs;
 use std::io::{self, Read, Write};
 use std::process::ExitCode;
 
@@ -34,14 +38,19 @@ const USAGE: &str = "usage: compare run                    what clear prints for
        compare levels                 what levels prints for it
        compare rewrite                what rewrite prints for it
        compare longest                what longest prints
+       compare reprice AFTER          what reprice prints for standard input and the file AFTER
+       compare pairprobe AFTER        what pairprobe prints for them
        compare asp                    the first query of standard input as a program for clingo
        compare hard N                 hard file number N of the bench, from 0, or nothing past the last
        compare make SEED N            file number N of a seed
        compare make-levels SEED N     file number N of a seed among those for the levels
        compare make-words SEED N      file number N of a seed among those for the words
+       compare make-pair SEED N first|second
+                                      a file of pair number N of a seed
        compare compare SEED PART ...  each part one of: clear CLEAR COUNT, probe PROBE COUNT,
                                       words PROBE COUNT, levels LEVELS COUNT, mended LEVELS CLEAR COUNT,
-                                      rewrite REWRITE COUNT, longest LONGEST CLEAR PROBE
+                                      rewrite REWRITE COUNT, longest LONGEST CLEAR PROBE,
+                                      reprice REPRICE COUNT, pairprobe PAIRPROBE COUNT
        compare first SEED PART ...    the same, up to the first difference
        compare bench CLEAR LEVELS REWRITE [BEFORE]
                                       times of hard files; BEFORE is an earlier build of clear";
@@ -65,67 +74,55 @@ fn main() -> ExitCode {
 /// False when a comparison found a difference.
 fn work(arguments: &[&str]) -> io::Result<bool> {
     match *arguments {
-        ["run"] => io::stdout().write_all(run::run(&input()?).as_bytes())?,
-        ["probe"] => io::stdout().write_all(probe::probe(&input()?).as_bytes())?,
-        ["levels"] => io::stdout().write_all(levels::levels(&input()?).as_bytes())?,
-        ["rewrite"] => io::stdout().write_all(writer::rewrite(&input()?).as_bytes())?,
-        ["longest"] => io::stdout().write_all(&longest::longest())?,
-        ["asp"] => io::stdout().write_all(asp::asp(&input()?).as_bytes())?,
-        ["hard", number] => io::stdout().write_all(&hard::file(parse(number)?))?,
-        ["make", seed, number] => {
-            io::stdout().write_all(&generate::file(parse(seed)?, parse(number)?))?;
-        }
-        ["make-levels", seed, number] => {
-            io::stdout().write_all(&generate::levels_file(parse(seed)?, parse(number)?))?;
-        }
-        ["make-words", seed, number] => {
-            io::stdout().write_all(&generate::words_file(parse(seed)?, parse(number)?))?;
-        }
         ["compare", seed, ref parts @ ..] => {
             return compare_parts(Comparison::new(parse(seed)?, MOST_DIFFERENCES), parts)
         }
         ["first", seed, ref parts @ ..] => return compare_parts(Comparison::new(parse(seed)?, 1), parts),
         ["bench", clear, levels, rewrite] => bench::bench(clear, levels, rewrite, None)?,
         ["bench", clear, levels, rewrite, before] => bench::bench(clear, levels, rewrite, Some(before))?,
-        _ => return Err(usage()),
+        _ => io::stdout().write_all(&printed(arguments)?)?,
     }
     Ok(true)
+}
+
+/// What is printed where nothing is run.
+fn printed(arguments: &[&str]) -> io::Result<Vec<u8>> {
+    Ok(match *arguments {
+        ["run"] => run::run(&input()?).into_bytes(),
+        ["probe"] => probe::probe(&input()?).into_bytes(),
+        ["levels"] => levels::levels(&input()?).into_bytes(),
+        ["rewrite"] => writer::rewrite(&input()?).into_bytes(),
+        ["longest"] => longest::longest(),
+        ["reprice", after] => reprice::reprice(&input()?, &fs::read(after)?).into_bytes(),
+        ["pairprobe", after] => reprice::pairprobe(&input()?, &fs::read(after)?).into_bytes(),
+        ["asp"] => asp::asp(&input()?).into_bytes(),
+        ["hard", number] => hard::file(parse(number)?),
+        ["make", seed, number] => generate::file(parse(seed)?, parse(number)?),
+        ["make-levels", seed, number] => generate::levels_file(parse(seed)?, parse(number)?),
+        ["make-words", seed, number] => generate::words_file(parse(seed)?, parse(number)?),
+        ["make-pair", seed, number, "first"] => pairs::pair(parse(seed)?, parse(number)?)[0].clone(),
+        ["make-pair", seed, number, "second"] => pairs::pair(parse(seed)?, parse(number)?)[1].clone(),
+        _ => return Err(usage()),
+    })
 }
 
 /// True when there was no difference.
 fn compare_parts(mut comparison: Comparison, mut parts: &[&str]) -> io::Result<bool> {
     while !parts.is_empty() {
-        parts = match *parts {
-            ["clear", clear, count, ref rest @ ..] => {
-                comparison.clear(clear, parse(count)?)?;
-                rest
-            }
-            ["probe", probe, count, ref rest @ ..] => {
-                comparison.probe(probe, parse(count)?)?;
-                rest
-            }
-            ["words", probe, count, ref rest @ ..] => {
-                comparison.words(probe, parse(count)?)?;
-                rest
-            }
-            ["levels", levels, count, ref rest @ ..] => {
-                comparison.levels(levels, parse(count)?)?;
-                rest
-            }
-            ["mended", levels, clear, count, ref rest @ ..] => {
-                comparison.mended(levels, clear, parse(count)?)?;
-                rest
-            }
-            ["rewrite", rewrite, count, ref rest @ ..] => {
-                comparison.rewrite(rewrite, parse(count)?)?;
-                rest
-            }
-            ["longest", longest, clear, probe, ref rest @ ..] => {
-                comparison.longest(longest, clear, probe)?;
-                rest
-            }
+        let (done, rest) = match *parts {
+            ["clear", clear, count, ref rest @ ..] => (comparison.clear(clear, parse(count)?), rest),
+            ["probe", probe, count, ref rest @ ..] => (comparison.probe(probe, parse(count)?), rest),
+            ["words", probe, count, ref rest @ ..] => (comparison.words(probe, parse(count)?), rest),
+            ["levels", levels, count, ref rest @ ..] => (comparison.levels(levels, parse(count)?), rest),
+            ["mended", levels, clear, count, ref rest @ ..] => (comparison.mended(levels, clear, parse(count)?), rest),
+            ["rewrite", rewrite, count, ref rest @ ..] => (comparison.rewrite(rewrite, parse(count)?), rest),
+            ["longest", longest, clear, probe, ref rest @ ..] => (comparison.longest(longest, clear, probe), rest),
+            ["reprice", reprice, count, ref rest @ ..] => (comparison.reprice(reprice, parse(count)?), rest),
+            ["pairprobe", prober, count, ref rest @ ..] => (comparison.pairprobe(prober, parse(count)?), rest),
             _ => return Err(usage()),
         };
+        done?;
+        parts = rest;
     }
     Ok(comparison.end() == 0)
 }

@@ -95,7 +95,7 @@ fn late(engine: &mut Engine, query: &Query) -> String {
     format!("late {words} shared judge {judge} fire {fire} short {short}")
 }
 
-fn named(query: &Query) -> String {
+pub fn named(query: &Query) -> String {
     format!("query want={} done={}\n", query.want, query.done)
 }
 
