@@ -1,18 +1,18 @@
--- What a repriced action can do (document 02, F-5): where the weight of one action rises by k, the slim sets are the same, none
--- turns into none, a choice into a choice, and the least cost rises by 0 to k. `reprices` in Laws proves it of every two accepted
--- policies.
+-- What a repriced action can do (document 02, F-5): where the weight of one action rises by k, none turns into none, a choice into a
+-- choice, the least cost rises by 0 to k, and the slim sets are the same.
 use Prim.Native.Nat.{ℕ, _+_, _≤_}
 use mathlib.Core.List.{List}
-use mathlib.Core.Logic.{_↔_}
+use mathlib.Core.Logic.{_↔_, _⊎_}
 use mathlib.Core.Path.{_≡_}
 use Rattle.policy.specs.declared.Policy.{Policy}
 use Rattle.policy.specs.declared.Query.{Query}
-use Rattle.policy.specs.Record.{weightOf}
+use Rattle.policy.specs.Record.{weightOf, Agree}
+use Rattle.policy.specs.Questions.{Accepted}
 use Rattle.engine.specs.declared.Choice.{Choice}
 use Rattle.engine.specs.declared.Answer.the-variants.{None, Chosen}
 use Rattle.engine.specs.Sets.{Enough, Slim}
 use Rattle.engine.specs.Calls.{chooseOf, listOf, listAfter}
-use Rattle.alike.specs.Comparable.{reweighed}
+use Rattle.alike.specs.Comparable.{reweighed, Comparable}
 
 -- the policy with the weight of action a raised by k
 abbrev pub raised : Policy → ℕ → ℕ → Policy
@@ -43,3 +43,11 @@ module _ (p p′ : Policy) (q : Query) where
     -- and so a choice into a choice, whose cost rises by 0 to k: from the first policy to the second, and back
     pub chosen : (c : Choice) → chooseOf p q ≡ Chosen c → (c′ : Choice) × (chooseOf p′ q ≡ Chosen c′) × Moves k c c′
     pub chosen-back : (c′ : Choice) → chooseOf p′ q ≡ Chosen c′ → (c : Choice) × (chooseOf p q ≡ Chosen c) × Moves k c c′
+
+-- the request whole (`repriced-action` in Laws)
+pub record RepricedAction : Type 0 where
+  -- for every two accepted policies of which the second is the first with the weight of an action raised by k, whatever stands past
+  -- their counts
+  pub raises : (p p′ : Policy) (q : Query) (a k : ℕ) → Agree (raised p a k) p′ → Accepted p q → Accepted p′ q → Reprices p p′ q k
+  -- and of every two comparable policies one is the other with a weight raised
+  pub either : (p p′ : Policy) → Comparable p p′ → (a : ℕ) × (k : ℕ) × (Agree (raised p a k) p′ ⊎ Agree (raised p′ a k) p)
