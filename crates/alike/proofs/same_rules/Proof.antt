@@ -28,7 +28,8 @@ returns : tie.Need-returns Inv-loop μ-loop
 returns c =
     let top = c .before .before .before .before .before in
     let args = top .before .before .args in
-    told (all-rules _ _) (matched-fails (top .loop .inv) noRule _ (top .before .smaller .ensures) (c .before .before .before .before .loop-test .taken)
+    told (all-rules _ _)
+    (matched-fails (top .loop .inv) noRule _ (top .before .smaller .ensures) (c .before .before .before .before .loop-test .taken)
     (tested-no (known (c .before .same .ensures) (a-rule _ _)) (c .if1 .taken))
     ∙ ap (λ n. paired sameRule (rulesOf (args .t1)) (take n (args .t2 .rule))) (top .before .before .pre))
 

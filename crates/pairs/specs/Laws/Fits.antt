@@ -41,7 +41,8 @@ module _ (r r′ : Reading) where
   texts-fit : (b : Bool) (i : ℕ) → length (textAt (texts b) i) ≤ longestPrices
   unfolding apartText
   texts-fit true i =
-      each-fits longestPrices (queryText (r .policy) (r′ .policy)) (λ q. query-length (q .want) _) (take (r .queries .count) (r .queries .at)) i
+      each-fits longestPrices (queryText (r .policy) (r′ .policy)) (λ q. query-length (q .want) _)
+      (take (r .queries .count) (r .queries .at)) i
   texts-fit false i = only-fits longestPrices apartText i (omega arith)
 
   pair-fits : (i : ℕ) → length (textAt (pairTexts r r′) i) ≤ longestPrices

@@ -22,13 +22,15 @@ loop-holds c = seen-none (search (needs, length-mapped)) (search (needs, length-
 returns : tie.Need-returns Inv-loop μ-loop
 returns c =
     let top = c .before .before .before .before .before in
-    told (all-actions _ _) (seen-fails (top .loop .inv) _ (top .before .smaller .ensures) (c .before .before .before .before .loop-test .taken)
+    told (all-actions _ _)
+    (seen-fails (top .loop .inv) _ (top .before .smaller .ensures) (c .before .before .before .before .loop-test .taken)
     (tested-no (known (c .before .same-but-weight .ensures) (an-action _ _)) (c .if1 .taken)))
 
 returns-2 : tie.Need-returns-2 Inv-loop μ-loop
 returns-2 c =
     let turn = c .before .before .before .before .before .before .before .before in
-    told (all-actions _ _) (seen-twice (turn .before .loop .inv) _ (turn .before .before .smaller .ensures) (turn .loop-test .taken) (c .before .if2 .taken)
+    told (all-actions _ _)
+    (seen-twice (turn .before .loop .inv) _ (turn .before .before .smaller .ensures) (turn .loop-test .taken) (c .before .if2 .taken)
     (c .if3 .taken))
 
 loop-again : tie.Need-loop-again Inv-loop μ-loop
