@@ -2,7 +2,7 @@
 //! which clingo lists those of them that are slim.
 
 use crate::policy::{has, Action, Policy, Query};
-use crate::reader::{read, File};
+use crate::reader::read;
 
 /// All answer sets (-n0) that are smallest in the shown atoms: these are tried false first, and what is found shuts out
 /// all that contain it. Of the configurations frumpy is the quickest here. The sets are printed and nothing else.
@@ -15,7 +15,7 @@ pub const NO_NOTES: &str = "-Wnone";
 pub fn asp(input: &[u8]) -> String {
     match read(input) {
         Err(number) => format!("refused={number}\n"),
-        Ok(File { policy, queries, .. }) => {
+        Ok((policy, queries)) => {
             let command = format!("% clingo {NO_NOTES} {}\n", SOLVE.join(" "));
             queries.first().map_or(String::new(), |query| command + &program(&policy, query))
         }

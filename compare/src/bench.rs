@@ -4,12 +4,12 @@
 
 use crate::asp::{program, sets, NO_NOTES, SOLVE};
 use crate::clock::{best_in_turns, best_time, timed, Timed, LEAST_TURNS, MOST_TURNS, REPEATS};
+use crate::compare::but_lines;
 use crate::generate::{file, text, to_lines};
 use crate::hard::{circle, hard, little, others, LARGEST};
 use crate::random::{random, Case, Size};
-use crate::reader::{read, File};
+use crate::reader::read;
 use crate::rng::Rng;
-use crate::texts::but_lines;
 use std::io;
 
 /// What a query should take at most, in milliseconds.
@@ -45,7 +45,7 @@ fn table(name: &str, program: &str, command: &str, cases: &[(&str, Case)]) -> io
     heading("file", name, "outside engine");
     let mut times = Vec::new();
     for (what, case) in cases {
-        let file = text(&to_lines(case, 1));
+        let file = text(&to_lines(case));
         let (this, other) = (best_time(program, &[], &file)?, best_time(own, &[command], &file)?);
         row(what, &this, &other, this.printed == other.printed);
         times.push(this);
@@ -94,13 +94,13 @@ fn clingo(clear: &str, times: &[Timed]) -> io::Result<()> {
 
 /// For how many of the first files of seed 1 that have a query clingo lists the sets that `clear` lists.
 fn alike(clear: &str) -> io::Result<usize> {
-    let cases = (0..).filter_map(|number| read(&file(1, number)).ok()).filter(|file| !file.queries.is_empty());
+    let cases = (0..).filter_map(|number| read(&file(1, number)).ok()).filter(|(_, queries)| !queries.is_empty());
     let mut count = 0;
-    for File { policy, mut queries, .. } in cases.take(ALIKE) {
+    for (policy, mut queries) in cases.take(ALIKE) {
         queries.truncate(1);
         let question = program(&policy, &queries[0]);
         let clingo = timed("clingo", &[&[NO_NOTES], &SOLVE[..]].concat(), question.as_bytes())?;
-        let this = timed(clear, &[], &text(&to_lines(&Case { policy, queries }, 1)))?;
+        let this = timed(clear, &[], &text(&to_lines(&Case { policy, queries })))?;
         let list = listed(&this.printed);
         count += usize::from(list.is_some() && sets(&clingo.printed) == list);
     }
@@ -124,7 +124,7 @@ fn builds(clear: &str, before: &str) -> io::Result<()> {
     heading("file without also masks", "clear", "earlier clear");
     let without = |case: &Case| case.policy.actions.iter().all(|action| action.also == 0);
     for (what, case) in cases().into_iter().filter(|(_, case)| without(case)) {
-        let [this, earlier] = best_in_turns([clear, before], &text(&to_lines(&case, 1)))?;
+        let [this, earlier] = best_in_turns([clear, before], &text(&to_lines(&case)))?;
         let [one, other] = [&this, &earlier].map(|timed| but_lines(&String::from_utf8_lossy(&timed.printed), "keep="));
         row(what, &this, &earlier, one == other);
     }

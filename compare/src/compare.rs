@@ -7,16 +7,15 @@ use crate::levels::{is_lowest, levels, lowest, MOST_TRIED};
 use crate::longest::{longest, sets_of};
 use crate::pairs::pair;
 use crate::probe::probe;
-use crate::programs::{output, output_for_pair};
-use crate::reader::{read, read_lines, File};
+use crate::reader::{read, read_lines};
 use crate::reprice::{pairprobe, reprice};
 use crate::run::{commas, run};
-use crate::tally::Tally;
-use crate::texts::{but_lines, first_difference, in_edition_1, keeping, most_slim, with_levels};
 use crate::writer::rewrite;
 use std::collections::BTreeMap;
+use std::io::Write as _;
 use std::path::Path;
-use std::{fs, io};
+use std::process::{self, Command, Stdio};
+use std::{env, fs, io};
 
 /// The files that a part takes: what stands before their names where they are kept, and how they are made.
 struct Kind {
@@ -37,6 +36,10 @@ pub struct Comparison {
     differences: usize,
 }
 
+/// How many files, or pairs of files, were refused by each number, and by none.
+#[derive(Default)]
+struct Tally(BTreeMap<String, u64>);
+
 impl Comparison {
     pub fn new(seed: u64, most: usize) -> Self {
         Comparison { seed, most, differences: 0 }
@@ -44,15 +47,13 @@ impl Comparison {
 
     /// The first files of the seed, by what `clear` prints. Those made to be valid are accepted. No query has more slim
     /// sets than there are sets of half of the actions. With no unless entry there is nothing to keep off, and both ways
-    /// to a keep-off mask agree. A file of edition 2 is answered as it is without its edition line and its rule lines.
+    /// to a keep-off mask agree.
     pub fn clear(&mut self, program: &str, count: u64) -> io::Result<()> {
-        let (mut second, mut queries, mut none, mut most, mut kept) = (0, 0, 0, 0, 0);
+        let (mut queries, mut none, mut most, mut kept) = (0, 0, 0, 0);
         let tally = self.each(&ANY, program, 0..count, run, |number, input, due| {
             queries += due.matches("want=").count();
             none += due.matches("best=none").count();
-            if let Ok(File { edition, policy, queries: asked }) = read(input) {
-                assert!(edition == 1 || is_as_edition_1(input, due), "file {number} is another in edition 1");
-                second += u32::from(edition == 2);
+            if let Ok((policy, asked)) = read(input) {
                 let (slim, actions, keeping) = (most_slim(due), policy.actions.len(), keeping(due));
                 assert!(slim <= sets_of(actions / 2, actions).len(), "file {number} has more slim sets");
                 assert!(keeping == 0 || policy.has_unless(), "file {number} has something to keep off");
@@ -63,7 +64,6 @@ impl Comparison {
             }
         })?;
         let (text, bests) = (tally.text("files"), format!("{none} with none, {kept} with actions to keep off"));
-        let text = format!("{text}, {second} accepted in edition 2");
         self.tell(&format!("clear: {text}, {queries} queries, {bests}, at most {most} slim sets"));
         Ok(())
     }
@@ -72,7 +72,7 @@ impl Comparison {
     pub fn probe(&mut self, program: &str, count: u64) -> io::Result<()> {
         let seed = self.seed;
         let meant = |number: &u64| match read(&file(seed, *number)) {
-            Ok(file) => file.policy.actions.len() <= 9 && file.queries.len() <= 8,
+            Ok((policy, queries)) => policy.actions.len() <= 9 && queries.len() <= 8,
             Err(_) => number % 5 == 0,
         };
         let numbers = (0..).filter(meant).take(count as usize);
@@ -97,7 +97,7 @@ impl Comparison {
     pub fn levels(&mut self, program: &str, count: u64) -> io::Result<()> {
         let mut tried = 0;
         let tally = self.each(&FOR_LEVELS, program, 0..count, levels, |number, input, _| match read_lines(input) {
-            Ok(File { policy, .. }) if policy.levels.len() <= MOST_TRIED => {
+            Ok((policy, _)) if policy.levels.len() <= MOST_TRIED => {
                 assert!(is_lowest(&policy, &lowest(&policy)), "file {number} for the levels has others");
                 tried += 1;
             }
@@ -135,7 +135,7 @@ impl Comparison {
     pub fn mended(&mut self, program: &str, clear: &str, count: u64) -> io::Result<()> {
         let seed = self.seed;
         let meant = |number: &u64| match read_lines(&levels_file(seed, *number)) {
-            Ok(File { policy, queries, .. }) => {
+            Ok((policy, queries)) => {
                 lowest(&policy).is_ok() && policy.actions.len() <= 8 && (1..=8).contains(&queries.len())
             }
             Err(_) => false,
@@ -164,15 +164,13 @@ impl Comparison {
         Ok(())
     }
 
-    /// The first files of the seed, and as many of those for the levels, by what `rewrite` prints. An accepted file of
-    /// edition 1 is given back, by the engine here too; for one of edition 2 a file of edition 1 is printed that states
-    /// the same.
+    /// The first files of the seed, and as many of those for the levels, by what `rewrite` prints. An accepted file is
+    /// given back, by the engine here too.
     pub fn rewrite(&mut self, program: &str, count: u64) -> io::Result<()> {
         let mut longest = 0;
         let mut after = |number: u64, input: &[u8], due: &str| {
-            if let Ok(file) = read(input) {
-                assert!(file.edition == 2 || due.as_bytes() == input, "file {number} is not given back");
-                assert!(read(due.as_bytes()) == Ok(File { edition: 1, ..file }), "file {number} is written as another");
+            if !due.starts_with("refused=") {
+                assert!(due.as_bytes() == input, "file {number} is not given back");
                 longest = longest.max(input.len());
             }
         };
@@ -182,23 +180,18 @@ impl Comparison {
         Ok(())
     }
 
-    /// The file with the longest list, by what `longest` prints, and by what `clear` and the probe print for it, and for
-    /// the same in edition 2. Its list has the sets of exactly 8 actions.
+    /// The file with the longest list, by what `longest` prints, and by what `clear` and the probe print for it. Its
+    /// list has the sets of exactly 8 actions.
     pub fn longest(&mut self, program: &str, clear: &str, prober: &str) -> io::Result<()> {
-        let (file, sets) = (longest(1), sets_of(8, 16));
+        let (file, sets) = (longest(), sets_of(8, 16));
+        let answers = run(&file);
+        let stop =
+            self.differs("longest-", 0, &[&file], &output(program, &[], b"")?, &String::from_utf8_lossy(&file))?
+                || self.differs("longest-", 1, &[&file], &output(clear, &[], &file)?, &answers)?
+                || self.differs("longest-", 2, &[&file], &output(prober, &[], &file)?, &probe(&file))?;
         let listed = [format!("slim={}", sets.len()), format!("list={}", commas(&sets))];
-        let due = String::from_utf8_lossy(&file);
-        let mut stop = self.differs("longest-", 0, &[&file], &output(program, &[], b"")?, &due)?;
-        for edition in [1, 2] {
-            let file = longest(edition);
-            let answers = run(&file);
-            let number = u64::from(edition);
-            stop = stop
-                || self.differs("longest-", number, &[&file], &output(clear, &[], &file)?, &answers)?
-                || self.differs("longest-", number, &[&file], &output(prober, &[], &file)?, &probe(&file))?;
-            let all_due = listed.iter().all(|due| answers.lines().any(|line| line == due));
-            assert!(stop || all_due, "other sets are listed");
-        }
+        let all_due = listed.iter().all(|due| answers.lines().any(|line| line == due));
+        assert!(stop || all_due, "other sets are listed");
         self.tell(&format!("longest: {} bytes, {} sets listed", file.len(), sets.len()));
         Ok(())
     }
@@ -265,9 +258,93 @@ impl Comparison {
     }
 }
 
-/// Whether a file of edition 2 without its edition line and its rule lines is accepted as one of edition 1, with the same
-/// answers.
-fn is_as_edition_1(input: &[u8], answers: &str) -> bool {
-    let first = in_edition_1(input);
-    read(&first).map(|file| file.edition) == Ok(1) && run(&first) == answers
+impl Tally {
+    fn count(&mut self, due: &str) {
+        let refused = due.strip_prefix("refused=").map(str::trim_end);
+        *self.0.entry(refused.unwrap_or("0").to_string()).or_default() += 1;
+    }
+
+    fn add(&mut self, other: Tally) {
+        for (number, count) in other.0 {
+            *self.0.entry(number).or_default() += count;
+        }
+    }
+
+    /// The things are files, or pairs of files.
+    fn text(&self, things: &str) -> String {
+        let mut text = format!("{} {things}", self.0.values().sum::<u64>());
+        for (number, count) in &self.0 {
+            text += &match number.as_str() {
+                "0" => format!(", {count} accepted"),
+                _ => format!(", {count} refused by {number}"),
+            };
+        }
+        text
+    }
+}
+
+/// The file with its level lines replaced.
+fn with_levels(input: &[u8], levels: &str) -> Vec<u8> {
+    let input = String::from_utf8_lossy(input);
+    let lines = input.split_inclusive('\n').map(|line| if line.starts_with("level=") { "" } else { line });
+    let mut lines: Vec<&str> = lines.collect();
+    lines[2] = levels;
+    lines.concat().into_bytes()
+}
+
+/// The largest number of slim sets of a query, 0 where there is none.
+fn most_slim(answers: &str) -> usize {
+    let counts = answers.lines().filter_map(|line| line.strip_prefix("slim="));
+    counts.map(|count| count.parse().expect("a number")).max().unwrap_or(0)
+}
+
+/// The number of queries with a keep-off mask other than 0.
+fn keeping(answers: &str) -> usize {
+    answers.lines().filter(|line| line.starts_with("keep=") && *line != "keep=0").count()
+}
+
+/// The lines but those with this key.
+pub fn but_lines(answers: &str, key: &str) -> String {
+    answers.split_inclusive('\n').filter(|line| !line.starts_with(key)).collect()
+}
+
+fn first_difference(printed: &[u8], due: &str) -> String {
+    let printed = String::from_utf8_lossy(printed);
+    let (mut left, mut right) = (printed.split('\n'), due.split('\n'));
+    for line in 1.. {
+        let (left, right) = (left.next(), right.next());
+        if left != right || left.is_none() {
+            let show = |text: Option<&str>| text.unwrap_or("(no more)").to_string();
+            return format!("line {line}: the program has '{}', here it is '{}'", show(left), show(right));
+        }
+    }
+    unreachable!("the texts end")
+}
+
+/// What a program prints for this input. That it ends without reading all of it is no fault; that it fails is.
+pub fn output(program: &str, arguments: &[&str], input: &[u8]) -> io::Result<Vec<u8>> {
+    let mut command = Command::new(program);
+    let child = command.args(arguments).stdin(Stdio::piped()).stdout(Stdio::piped()).spawn();
+    let mut child = child.map_err(|error| io::Error::new(error.kind(), format!("{program}: {error}")))?;
+    let written = child.stdin.take().expect("a pipe").write_all(input);
+    let output = child.wait_with_output()?;
+    match written {
+        Err(error) if error.kind() != io::ErrorKind::BrokenPipe => return Err(error),
+        _ => {}
+    }
+    if output.status.success() {
+        Ok(output.stdout)
+    } else {
+        Ok(format!("{program} ended with {}", output.status).into_bytes())
+    }
+}
+
+/// What a program prints that reads one file from standard input and the other from descriptor 3.
+fn output_for_pair(program: &str, before: &[u8], after: &[u8]) -> io::Result<Vec<u8>> {
+    let name = env::temp_dir().join(format!("after-{}.policy", process::id()));
+    fs::write(&name, after)?;
+    let path = name.to_str().expect("a name in text");
+    let printed = output("sh", &["-c", r#"exec "$0" 3<"$1""#, program, path], before);
+    fs::remove_file(&name)?;
+    printed
 }

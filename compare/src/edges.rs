@@ -1,8 +1,7 @@
-//! Files at the edges that document 01 names, in both editions: a valid file with one line, or one relation, put to
-//! either side of an edge; and files with two faults, which show that the first no wins.
+//! Files at the edges that document 01 names: a valid file with one line, or one relation, put to either side of an
+//! edge; and files with two faults, which show that the first no wins.
 
-use crate::editions::{edition_contents, edition_places, number_faults, odd_starts, rule_contents, rule_places};
-use crate::generate::{text, to_lines, EITHER};
+use crate::generate::{text, to_lines};
 use crate::policy::{Action, Query, Rule};
 use crate::random::{random, rule, Case, Size};
 use crate::rng::Rng;
@@ -10,31 +9,25 @@ use crate::rng::Rng;
 const NUMBER_KEYS: [&str; 11] =
     ["decisions", "actions", "level", "weight", "also", "rules", "head", "needs", "queries", "want", "done"];
 
-/// The index-th file at an edge: the groups of edges take turns, the large ones two at a time, and in a group its edges
-/// do.
+/// The index-th file at an edge: the groups of edges take turns, and in a group its edges do.
 pub fn edge(rng: &mut Rng, index: u64) -> Vec<u8> {
-    let (turn, place) = ((index / 16) as usize, (index % 16) as usize);
-    let of_two = 2 * turn + place % 2;
-    match place {
-        0 | 1 => numbers(rng, of_two),
-        2 | 3 => lists(rng, of_two),
-        4 | 5 => number_faults(rng, of_two),
-        6 => rule_contents(rng, turn),
-        7 => rule_places(rng, turn),
-        8 => edition_contents(rng, turn),
-        9 => edition_places(rng, turn),
-        10 => odd_starts(rng, turn),
-        11 => forms(rng, turn),
-        12 => counts(rng, turn),
-        13 => whole_lines(rng, turn),
-        14 => relations(rng, turn),
+    let turn = (index / 9) as usize;
+    match index % 9 {
+        0 => numbers(rng, 2 * turn),
+        1 => numbers(rng, 2 * turn + 1),
+        2 => lists(rng, 2 * turn),
+        3 => lists(rng, 2 * turn + 1),
+        4 => forms(rng, turn),
+        5 => counts(rng, turn),
+        6 => whole_lines(rng, turn),
+        7 => relations(rng, turn),
         _ => two_faults(rng, turn),
     }
 }
 
 /// A valid file to change: decisions 0 to 8 have level 0 and the last one the highest, so that any of the first nine
 /// may stand in a list of a rule for the last.
-pub fn base(rng: &mut Rng) -> Case {
+fn base(rng: &mut Rng) -> Case {
     let size = Size {
         decisions: rng.within(10, 16),
         actions: rng.within(1, 5),
@@ -55,22 +48,12 @@ pub fn base(rng: &mut Rng) -> Case {
     case
 }
 
-/// The places of the lines with that key.
-pub fn places(lines: &[String], key: &str) -> Vec<usize> {
-    let start = format!("{key}=");
-    (0..lines.len()).filter(|&place| lines[place].starts_with(&start)).collect()
-}
-
-/// The place of one of them, if there are any.
-pub fn some_place(rng: &mut Rng, lines: &[String], key: &str) -> Option<usize> {
-    let places = places(lines, key);
-    (!places.is_empty()).then(|| rng.pick(&places))
-}
-
 /// Puts the content to one of the lines with that key.
-pub fn put(rng: &mut Rng, lines: &mut [String], key: &str, content: &str) {
-    if let Some(place) = some_place(rng, lines, key) {
-        lines[place] = format!("{key}={content}");
+fn put(rng: &mut Rng, lines: &mut [String], key: &str, content: &str) {
+    let start = format!("{key}=");
+    let places: Vec<usize> = (0..lines.len()).filter(|&i| lines[i].starts_with(&start)).collect();
+    if !places.is_empty() {
+        lines[rng.pick(&places)] = start + content;
     }
 }
 
@@ -101,7 +84,7 @@ fn number_edges(case: &Case) -> Vec<(&'static str, String)> {
 
 fn numbers(rng: &mut Rng, turn: usize) -> Vec<u8> {
     let case = base(rng);
-    let mut lines = to_lines(&case, rng.pick(&EITHER));
+    let mut lines = to_lines(&case);
     let edges = number_edges(&case);
     let (key, content) = &edges[turn % edges.len()];
     put(rng, &mut lines, key, content);
@@ -114,7 +97,7 @@ const KINDS: &str = "p|o||P|op|pp|x|0";
 
 /// How a number or a kind is written: its digits, leading zeros, and what does not belong there.
 fn forms(rng: &mut Rng, turn: usize) -> Vec<u8> {
-    let mut lines = to_lines(&base(rng), rng.pick(&EITHER));
+    let mut lines = to_lines(&base(rng));
     let numbers = NUMBERS.split('|').map(|form| (rng.pick(&NUMBER_KEYS), form));
     let mut all: Vec<(&str, &str)> = numbers.collect();
     all.extend(KINDS.split('|').map(|form| ("kind", form)));
@@ -155,10 +138,10 @@ fn lists(rng: &mut Rng, turn: usize) -> Vec<u8> {
     let place = rng.below(case.policy.rules.len());
     let last = case.policy.rules.len() - 1;
     case.policy.rules.swap(place, last);
-    let mut lines = to_lines(&case, rng.pick(&EITHER));
-    let key = ["if", "unless"][turn % 2];
-    let line = places(&lines, key)[place];
-    lines[line] = format!("{key}={}", edges[turn / 2 % edges.len()]);
+    let mut lines = to_lines(&case);
+    let first = lines.iter().position(|line| line.starts_with("rules=")).expect("a rule count") + 1;
+    let (offset, key) = [(2, "if"), (3, "unless")][turn % 2];
+    lines[first + 4 * place + offset] = format!("{key}={}", edges[turn / 2 % edges.len()]);
     text(&lines)
 }
 
@@ -168,7 +151,7 @@ fn counts(rng: &mut Rng, turn: usize) -> Vec<u8> {
     let (which, end) = (turn % 4, turn / 4 % 4);
     let mut size = Size { decisions: 5, actions: 3, rules: 6, queries: 1, top_level: 2 };
     *[&mut size.decisions, &mut size.actions, &mut size.rules, &mut size.queries][which] = ends[which][end];
-    text(&to_lines(&random(rng, &size), rng.pick(&EITHER)))
+    text(&to_lines(&random(rng, &size)))
 }
 
 /// The levels of question 5 and the weights of question 6, one below, equal and one above.
@@ -180,12 +163,12 @@ fn relations(rng: &mut Rng, turn: usize) -> Vec<u8> {
     } else {
         weight_edge(rng, &mut case, turn - 8);
     }
-    text(&to_lines(&case, rng.pick(&EITHER)))
+    text(&to_lines(&case))
 }
 
 /// Two new decisions, the first the head of a new rule that has the second in its if or unless list. The last two of
 /// the eight ways have the head itself there.
-pub fn level_edge(rng: &mut Rng, case: &mut Case, way: usize) {
+fn level_edge(rng: &mut Rng, case: &mut Case, way: usize) {
     let policy = &mut case.policy;
     let head = policy.levels.len() as u32;
     let level = rng.within(1, 14) as u32;
@@ -200,7 +183,7 @@ pub fn level_edge(rng: &mut Rng, case: &mut Case, way: usize) {
 }
 
 /// Two new actions, the first with the second in its also mask. The last two of the five ways have itself there.
-pub fn weight_edge(rng: &mut Rng, case: &mut Case, way: usize) {
+fn weight_edge(rng: &mut Rng, case: &mut Case, way: usize) {
     let actions = &mut case.policy.actions;
     let (first, weight) = (actions.len(), rng.within(2, 65_534) as u32);
     let own = [weight - 1, weight, weight + 1, weight + 1, weight][way];
@@ -224,7 +207,7 @@ fn two_faults(rng: &mut Rng, turn: usize) -> Vec<u8> {
             _ => {}
         }
     }
-    let mut lines = to_lines(&case, rng.pick(&EITHER));
+    let mut lines = to_lines(&case);
     for fault in faults {
         let number = rng.pick(&["level", "weight", "also", "head", "needs", "want", "done"]);
         let list = rng.pick(&["if", "unless"]);
@@ -241,10 +224,12 @@ fn two_faults(rng: &mut Rng, turn: usize) -> Vec<u8> {
 
 /// Lines missing, doubled, out of order or ill formed, and what may follow the last.
 fn whole_lines(rng: &mut Rng, turn: usize) -> Vec<u8> {
-    let mut lines = to_lines(&base(rng), rng.pick(&EITHER));
+    let case = base(rng);
+    let mut lines = to_lines(&case);
     let (place, other) = (rng.below(lines.len()), rng.below(lines.len()));
     let line = lines[place].clone();
-    match turn % 23 {
+    let (key, content) = line.split_once('=').expect("a line has an = sign");
+    match turn % 24 {
         0 => drop(lines.remove(place)),
         1 => lines.insert(place, line),
         2 => lines.swap(place, other),
@@ -253,31 +238,22 @@ fn whole_lines(rng: &mut Rng, turn: usize) -> Vec<u8> {
         5 => lines.insert(place, String::new()),
         6 => lines.push(String::new()),
         7 => lines.push(lines[lines.len() - 1].clone()),
-        8 => lines.clear(),
-        way @ 9..=11 => return odd_ends(rng, text(&lines), way - 9),
-        way => lines[place] = ill_formed(&line, way - 12),
+        8 => lines[place] = line.clone() + "\r",
+        9 => lines[place] = format!("{key} ={content}"),
+        10 => lines[place] = format!("{key}{content}"),
+        11 => lines[place] = key.to_string(),
+        12 => lines[place] = format!("{}={content}", key.to_uppercase()),
+        13 => lines[place] = format!("{}={content}", &key[1..]),
+        14 => lines[place] = format!("{}={content}", &key[..key.len() - 1]),
+        15 => lines[place] = format!("{key}s={content}"),
+        16 => lines[place] = format!("{key}=={content}"),
+        17 => lines[place] = format!(" {line}"),
+        18 => lines[place] = format!("{line}#"),
+        19 => lines.insert(0, "edition=2".to_string()),
+        20 => lines.clear(),
+        _ => return odd_ends(rng, text(&lines), turn % 24 - 21),
     }
     text(&lines)
-}
-
-/// So many ways a line is ill formed.
-pub const ILL_FORMS: usize = 11;
-
-pub fn ill_formed(line: &str, way: usize) -> String {
-    let (key, content) = line.split_once('=').expect("a line has an = sign");
-    match way {
-        0 => format!("{line}\r"),
-        1 => format!("{key} ={content}"),
-        2 => format!("{key}{content}"),
-        3 => key.to_string(),
-        4 => format!("{}={content}", key.to_uppercase()),
-        5 => format!("{}={content}", &key[1..]),
-        6 => format!("{}={content}", &key[..key.len() - 1]),
-        7 => format!("{key}s={content}"),
-        8 => format!("{key}=={content}"),
-        9 => format!(" {line}"),
-        _ => format!("{line}#"),
-    }
 }
 
 /// No last LF, or a byte after it.

@@ -14,12 +14,11 @@ const MOST_SLIM: usize = 12_870;
 /// moved, or None where it does not follow.
 pub fn effects(before: &[u8], after: &[u8]) -> Vec<Option<&'static str>> {
     match (read(before), read(after)) {
-        (Ok(first), Ok(second)) if comparable(&first.policy, &second.policy) => {
-            let (before, after) = (&first.policy, &second.policy);
-            let rise = weights(after) - weights(before);
-            let (low, high) = if rise < 0 { (after, before) } else { (before, after) };
+        (Ok((before, queries)), Ok((after, _))) if comparable(&before, &after) => {
+            let rise = weights(&after) - weights(&before);
+            let (low, high) = if rise < 0 { (&after, &before) } else { (&before, &after) };
             let (mut low, mut high) = (Engine::new(low), Engine::new(high));
-            let accepted = first.queries.iter().filter(|query| after.is_query(query));
+            let accepted = queries.iter().filter(|query| after.is_query(query));
             accepted.map(|query| effect(&mut low, &mut high, rise.abs(), query)).collect()
         }
         _ => Vec::new(),

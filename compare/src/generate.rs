@@ -1,8 +1,8 @@
 //! The files of a seed: valid ones, ones at the edges of each question, damaged ones, random bytes, and ones about
-//! as long as a file may be; and beside them files for the levels and for the words. All kinds are made in both editions.
-//! File number n of a seed is always the same.
+//! as long as a file may be; and beside them files for the levels and for the words. File number n of a seed is always
+//! the same.
 
-use crate::edges::{edge, put};
+use crate::edges::edge;
 use crate::many::many_actions;
 use crate::random::{small, Case};
 use crate::rng::Rng;
@@ -11,17 +11,12 @@ use crate::unlevelled::unlevelled;
 use crate::writer::lines;
 pub use crate::writer::text;
 
-/// An edition is picked from these.
-pub const EITHER: [u32; 2] = [1, 2];
-/// The same for a file with no fault put into it.
-const MOSTLY_FIRST: [u32; 3] = [1, 1, 2];
-
 /// Of twenty files in a row nine are valid, seven at an edge, three damaged and one of odd bytes.
 pub fn file(seed: u64, number: u64) -> Vec<u8> {
     let mut rng = Rng::new(seed, number);
     let (round, place) = (number / 20, number % 20);
     match place {
-        _ if is_valid(number) => text(&to_lines(&valid(&mut rng, 9 * round + place), rng.pick(&MOSTLY_FIRST))),
+        _ if is_valid(number) => text(&to_lines(&valid(&mut rng, 9 * round + place))),
         9..=15 => edge(&mut rng, 7 * round + place - 9),
         16 => damaged_bytes(&mut rng),
         17 => damaged_lines(&mut rng),
@@ -41,7 +36,7 @@ pub fn levels_file(seed: u64, number: u64) -> Vec<u8> {
     let (round, place) = (number / 9, number % 9);
     if place < 6 {
         let mut rng = Rng::new(!seed, number);
-        text(&to_lines(&unlevelled(&mut rng, 6 * round + place), rng.pick(&MOSTLY_FIRST)))
+        text(&to_lines(&unlevelled(&mut rng, 6 * round + place)))
     } else {
         let index = 3 * round + place - 6;
         file(seed, 20 * (index / 11) + 9 + index % 11)
@@ -50,23 +45,17 @@ pub fn levels_file(seed: u64, number: u64) -> Vec<u8> {
 
 /// Each file for the words is valid, and has more actions than the small ones that the probe is meant for.
 pub fn words_file(seed: u64, number: u64) -> Vec<u8> {
-    let mut rng = Rng::new(seed, !number);
-    text(&to_lines(&many_actions(&mut rng, number), rng.pick(&MOSTLY_FIRST)))
+    text(&to_lines(&many_actions(&mut Rng::new(seed, !number), number)))
 }
 
-pub fn to_lines(case: &Case, edition: u32) -> Vec<String> {
-    lines(&case.policy, &case.queries, edition)
-}
-
-/// The lines of a small file, to be damaged.
-fn small_lines(rng: &mut Rng) -> Vec<String> {
-    to_lines(&small(rng), rng.pick(&EITHER))
+pub fn to_lines(case: &Case) -> Vec<String> {
+    lines(&case.policy, &case.queries)
 }
 
 /// One to three bytes changed to another of the file, changed in one bit, dropped, doubled or swapped, or the end
 /// cut.
 fn damaged_bytes(rng: &mut Rng) -> Vec<u8> {
-    let mut file = text(&small_lines(rng));
+    let mut file = text(&to_lines(&small(rng)));
     for _ in 0..rng.within(1, 3) {
         let (place, other) = (rng.below(file.len()), rng.below(file.len()));
         match rng.below(16) {
@@ -83,7 +72,7 @@ fn damaged_bytes(rng: &mut Rng) -> Vec<u8> {
 
 /// One or two lines dropped, doubled, swapped, cut, or replaced by another.
 fn damaged_lines(rng: &mut Rng) -> Vec<u8> {
-    let mut lines = small_lines(rng);
+    let mut lines = to_lines(&small(rng));
     for _ in 0..rng.within(1, 2) {
         let (place, other) = (rng.below(lines.len()), rng.below(lines.len()));
         match rng.below(5) {
@@ -102,7 +91,7 @@ fn damaged_lines(rng: &mut Rng) -> Vec<u8> {
 
 /// Some numbers one up or one down, which leaves most files well formed.
 fn nudged(rng: &mut Rng) -> Vec<u8> {
-    let mut lines = small_lines(rng);
+    let mut lines = to_lines(&small(rng));
     for _ in 0..rng.within(1, 3) {
         let place = rng.below(lines.len());
         let (key, content) = lines[place].split_once('=').expect("a line has an = sign");
@@ -116,7 +105,7 @@ fn nudged(rng: &mut Rng) -> Vec<u8> {
 
 /// Any bytes, or bytes that occur in files, alone or behind the start of a file.
 fn odd_bytes(rng: &mut Rng) -> Vec<u8> {
-    let mut file = text(&small_lines(rng));
+    let mut file = text(&to_lines(&small(rng)));
     let known = file.clone();
     file.truncate(if rng.once_in(2) { 0 } else { rng.below(known.len()) });
     let any = rng.once_in(2);
@@ -130,12 +119,10 @@ fn odd_bytes(rng: &mut Rng) -> Vec<u8> {
 /// number; or an earlier line is refused.
 fn long(rng: &mut Rng) -> Vec<u8> {
     let length = rng.within(32_767, 32_769);
-    let mut lines = small_lines(rng);
+    let mut lines = to_lines(&small(rng));
     let way = rng.below(6);
-    match way {
-        0 => put(rng, &mut lines, "decisions", "129"),
-        1 => put(rng, &mut lines, "actions", "17"),
-        _ => {}
+    if way < 2 {
+        lines[way] = ["decisions=129", "actions=17"][way].to_string();
     }
     let mut file = text(&lines);
     let missing = length - file.len();

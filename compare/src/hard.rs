@@ -35,7 +35,7 @@ pub fn hard() -> Vec<(&'static str, Case)> {
 
 /// The text of a hard file, or nothing past the last.
 pub fn file(number: u64) -> Vec<u8> {
-    hard().get(number as usize).map_or(Vec::new(), |(_, case)| text(&to_lines(case, 1)))
+    hard().get(number as usize).map_or(Vec::new(), |(_, case)| text(&to_lines(case)))
 }
 
 /// The files that are timed beside the hard ones.

@@ -10,7 +10,7 @@ type Decisions = u128;
 
 /// What the program `levels` prints for a file.
 pub fn levels(input: &[u8]) -> String {
-    match read_lines(input).and_then(|file| lowest(&file.policy)) {
+    match read_lines(input).and_then(|(policy, _)| lowest(&policy)) {
         Err(number) => format!("refused={number}\n"),
         Ok(levels) => levels.iter().map(|level| format!("level={level}\n")).collect(),
     }

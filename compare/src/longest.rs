@@ -3,10 +3,9 @@
 use crate::generate::{text, to_lines};
 use crate::shapes::at_least;
 
-/// "At least j of the first i actions", i to 16 and j to 8; the query wants at least 8 of 16. Document 02's is of edition
-/// 1.
-pub fn longest(edition: u32) -> Vec<u8> {
-    text(&to_lines(&at_least(8, 16), edition))
+/// "At least j of the first i actions", i to 16 and j to 8; the query wants at least 8 of 16.
+pub fn longest() -> Vec<u8> {
+    text(&to_lines(&at_least(8, 16)))
 }
 
 /// The sets of so many of the actions, in rising order. No query has more slim sets than there are sets of half of

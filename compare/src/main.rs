@@ -2,11 +2,9 @@
 
 mod asp;
 mod bench;
-mod changes;
 mod clock;
 mod compare;
 mod edges;
-mod editions;
 mod effect;
 mod engine;
 mod forms;
@@ -19,7 +17,6 @@ mod many;
 mod pairs;
 mod policy;
 mod probe;
-mod programs;
 mod random;
 mod reader;
 mod reprice;
@@ -27,8 +24,6 @@ mod rng;
 mod run;
 mod shapes;
 mod spoils;
-mod tally;
-mod texts;
 mod unlevelled;
 mod words;
 mod writer;
@@ -97,7 +92,7 @@ fn printed(arguments: &[&str]) -> io::Result<Vec<u8>> {
         ["probe"] => probe::probe(&input()?).into_bytes(),
         ["levels"] => levels::levels(&input()?).into_bytes(),
         ["rewrite"] => writer::rewrite(&input()?).into_bytes(),
-        ["longest"] => longest::longest(1),
+        ["longest"] => longest::longest(),
         ["reprice", after] => reprice::reprice(&input()?, &fs::read(after)?).into_bytes(),
         ["pairprobe", after] => reprice::pairprobe(&input()?, &fs::read(after)?).into_bytes(),
         ["asp"] => asp::asp(&input()?).into_bytes(),

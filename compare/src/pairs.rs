@@ -1,17 +1,24 @@
 //! Pairs of files of a seed, before a change and after it: a weight, or what else a policy holds, or the queries; and
-//! pairs in which a file is refused. Both files may be of one edition, or of two. Pair number n of a seed is always the
-//! same.
+//! pairs in which a file is refused. Pair number n of a seed is always the same.
 
-use crate::changes::{lower, more_actions, more_decisions, raise, Change, OTHERS};
 use crate::engine::check;
 use crate::forms::forms;
-use crate::generate::{file, is_valid, text, to_lines, EITHER};
-use crate::policy::{has, Policy, Query, Refusal, TOP_WEIGHT};
-use crate::random::{queries, small, Case};
-use crate::reader::{read, read_lines, File};
+use crate::generate::{file, is_valid, text, to_lines};
+use crate::policy::{
+    has, Action, Policy, Query, Refusal, Rule, MOST_ACTIONS, MOST_DECISIONS, MOST_RULES, TOP_LEVEL, TOP_WEIGHT,
+};
+use crate::random::{mask, queries, rule, small, Case};
+use crate::reader::{read, read_lines};
 use crate::rng::Rng;
 use crate::shapes::valid;
+use crate::writer::lines;
 
+/// A change of one thing that a policy holds, or none where there is no such thing.
+type Change = fn(&mut Rng, &mut Policy);
+
+/// Changes of more than one weight, or of something else.
+const OTHERS: [Change; 11] =
+    [two_weights, kind, level, also, head, needs, if_entry, unless_entry, last_rule, more_decisions, more_actions];
 /// In so many pairs each kind of pair has its turn.
 const TURNS: u64 = 27;
 /// So often a change is tried for a policy that is accepted.
@@ -20,14 +27,12 @@ const TRIES: usize = 30;
 const WAYS: u64 = 3;
 /// Mostly there are no more actions.
 const FEW_ACTIONS: usize = 8;
-/// The questions that refuse files.
-const QUESTIONS: [Refusal; 7] = [1, 2, 3, 4, 5, 6, 11];
 
 /// The files BEFORE and AFTER.
 pub fn pair(seed: u64, number: u64) -> [Vec<u8>; 2] {
     let rng = &mut Rng::new(!seed, !number);
-    let (round, place) = ((number / TURNS) as usize, (number % TURNS) as usize);
-    let by = QUESTIONS[round % QUESTIONS.len()];
+    let (round, place) = (number / TURNS, (number % TURNS) as usize);
+    let by = 1 + (round % 6) as Refusal;
     let cases = match place {
         0..=7 => repriced(rng, place),
         8..=18 => other_change(rng, OTHERS[place - 8]),
@@ -35,20 +40,15 @@ pub fn pair(seed: u64, number: u64) -> [Vec<u8>; 2] {
         20 => other_queries(rng),
         21 => unfit(rng),
         22 => out_of_range(rng),
-        23 => same_fault(rng, seed, [6, 5][round % 2]),
-        24 => return [refused(rng, seed, by), in_either(&base(rng), rng)],
-        25 => return [in_either(&base(rng), rng), refused(rng, seed, by)],
+        23 => same_fault(rng, seed, 5 + by % 2),
+        24 => return [refused(rng, seed, by), text(&to_lines(&base(rng)))],
+        25 => return [text(&to_lines(&base(rng))), refused(rng, seed, by)],
         _ => {
-            let other = QUESTIONS[(round + rng.within(1, QUESTIONS.len() - 1)) % QUESTIONS.len()];
+            let other = 1 + (by + rng.below(5) as Refusal) % 6;
             return [by, other].map(|number| refused(rng, seed, number));
         }
     };
-    cases.map(|case| in_either(&case, rng))
-}
-
-/// A file of the case, in either edition.
-fn in_either(case: &Case, rng: &mut Rng) -> Vec<u8> {
-    text(&to_lines(case, rng.pick(&EITHER)))
+    cases.map(|case| text(&to_lines(&case)))
 }
 
 /// A valid policy with its queries: mostly few actions; now and then up to 16, and two queries at most.
@@ -70,7 +70,7 @@ fn with(rng: &mut Rng, policy: &Policy, change: Change) -> Policy {
     for _ in 0..TRIES {
         tried = policy.clone();
         change(rng, &mut tried);
-        if check(&tried).is_ok() && tried != *policy {
+        if check(&tried).is_ok() && lines(&tried, &[]) != lines(policy, &[]) {
             break;
         }
     }
@@ -169,7 +169,7 @@ fn out_of_range(rng: &mut Rng) -> [Case; 2] {
 
 /// A policy that this question, 5 or 6, refuses, and the same with one weight changed.
 fn same_fault(rng: &mut Rng, seed: u64, number: Refusal) -> [Case; 2] {
-    let File { policy, queries, .. } = read_lines(&refused(rng, seed, number)).expect("lines with no fault");
+    let (policy, queries) = read_lines(&refused(rng, seed, number)).expect("lines with no fault");
     let one = Case { policy, queries };
     let mut other = one.clone();
     raise(rng, &mut other.policy);
@@ -181,4 +181,133 @@ fn refused(rng: &mut Rng, seed: u64, number: Refusal) -> Vec<u8> {
     let start = rng.next() % 10_000;
     let mut files = (start..).filter(|&number| !is_valid(number)).map(|number| file(seed, number));
     files.find(|file| read(file).err() == Some(number)).expect("each question refuses some")
+}
+
+fn raise(rng: &mut Rng, policy: &mut Policy) {
+    for place in rng.rising(1, policy.actions.len()) {
+        weigh(rng, policy, place, true);
+    }
+}
+
+fn lower(rng: &mut Rng, policy: &mut Policy) {
+    for place in rng.rising(1, policy.actions.len()) {
+        weigh(rng, policy, place, false);
+    }
+}
+
+/// A weight up or down: by little, by any number, to that of another action, or to the end of the range.
+fn weigh(rng: &mut Rng, policy: &mut Policy, place: usize, up: bool) {
+    let weights: Vec<u32> = policy.actions.iter().map(|action| action.weight).collect();
+    let (weight, little, other) = (weights[place], rng.within(1, 9) as u32, rng.pick(&weights));
+    let (least, most) = if up { (weight, TOP_WEIGHT) } else { (1, weight) };
+    policy.actions[place].weight = match rng.below(4) {
+        0 if up => weight + little.min(TOP_WEIGHT - weight),
+        0 => weight.saturating_sub(little).max(1),
+        1 => rng.within(least as usize, most as usize) as u32,
+        2 => other.clamp(least, most),
+        _ if up => TOP_WEIGHT,
+        _ => 1,
+    };
+}
+
+fn two_weights(rng: &mut Rng, policy: &mut Policy) {
+    for place in rng.rising(2, policy.actions.len()) {
+        let up = rng.once_in(2);
+        weigh(rng, policy, place, up);
+    }
+}
+
+fn kind(rng: &mut Rng, policy: &mut Policy) {
+    for place in rng.rising(1, policy.actions.len()) {
+        let action = &mut policy.actions[place];
+        action.kind = if action.kind == 'p' { 'o' } else { 'p' };
+    }
+}
+
+fn level(rng: &mut Rng, policy: &mut Policy) {
+    let place = rng.below(policy.levels.len());
+    policy.levels[place] = rng.within(0, TOP_LEVEL as usize) as u32;
+}
+
+fn also(rng: &mut Rng, policy: &mut Policy) {
+    let count = policy.actions.len();
+    for place in rng.rising(1, count) {
+        policy.actions[place].also ^= 1 << rng.below(count);
+    }
+}
+
+/// A rule, the last one half of the time.
+fn some_rule<'a>(rng: &mut Rng, policy: &'a mut Policy) -> Option<&'a mut Rule> {
+    let count = policy.rules.len();
+    let place = if count > 0 && rng.once_in(2) { rng.below(count) } else { count.max(1) - 1 };
+    policy.rules.get_mut(place)
+}
+
+fn needs(rng: &mut Rng, policy: &mut Policy) {
+    let bit = 1 << rng.below(policy.actions.len().max(1));
+    some_rule(rng, policy).into_iter().for_each(|rule| rule.needs ^= bit);
+}
+
+fn head(rng: &mut Rng, policy: &mut Policy) {
+    let head = rng.below(policy.levels.len()) as u32;
+    some_rule(rng, policy).into_iter().for_each(|rule| rule.head = head);
+}
+
+fn if_entry(rng: &mut Rng, policy: &mut Policy) {
+    let entries = entries(rng, policy.levels.len());
+    some_rule(rng, policy).into_iter().for_each(|rule| toggle(&mut rule.ifs, &entries));
+}
+
+fn unless_entry(rng: &mut Rng, policy: &mut Policy) {
+    let entries = entries(rng, policy.levels.len());
+    some_rule(rng, policy).into_iter().for_each(|rule| toggle(&mut rule.unless, &entries));
+}
+
+/// What to change in a list: the entry 0, or any one or two.
+fn entries(rng: &mut Rng, decisions: usize) -> Vec<u32> {
+    match rng.below(3) {
+        0 => vec![0],
+        count => rng.rising(count, decisions).into_iter().map(|d| d as u32).collect(),
+    }
+}
+
+/// Takes each entry out of the list, or puts it in where it is not there.
+fn toggle(list: &mut Vec<u32>, entries: &[u32]) {
+    for entry in entries {
+        match list.binary_search(entry) {
+            Ok(place) => drop(list.remove(place)),
+            Err(place) => list.insert(place, *entry),
+        }
+    }
+}
+
+/// The last rule dropped, swapped with another, or put a second time; or another put after it, at times all zeros.
+fn last_rule(rng: &mut Rng, policy: &mut Policy) {
+    let count = policy.rules.len();
+    let last = policy.rules.last().cloned();
+    match (rng.below(5), last) {
+        (0, Some(_)) => drop(policy.rules.pop()),
+        (1, Some(_)) => policy.rules.swap(rng.below(count), count - 1),
+        _ if count == MOST_RULES => {}
+        (2, Some(last)) => policy.rules.push(last),
+        (3, _) => policy.rules.push(Rule::default()),
+        _ => policy.rules.push(rule(rng, policy)),
+    }
+}
+
+/// A decision after the last, of level 0 half of the time.
+fn more_decisions(rng: &mut Rng, policy: &mut Policy) {
+    if policy.levels.len() < MOST_DECISIONS {
+        let level = rng.within(0, TOP_LEVEL as usize) as u32;
+        policy.levels.push(if rng.once_in(2) { 0 } else { level });
+    }
+}
+
+/// An action after the last, with no others in it half of the time.
+fn more_actions(rng: &mut Rng, policy: &mut Policy) {
+    let count = policy.actions.len();
+    if count < MOST_ACTIONS {
+        let (kind, weight) = (rng.pick(&['p', 'o']), rng.within(1, TOP_WEIGHT as usize) as u32);
+        policy.actions.push(Action { kind, weight, also: if rng.once_in(2) { 0 } else { mask(rng, count) } });
+    }
 }

@@ -13,14 +13,14 @@ pub const TOP_WEIGHT: u32 = 65_535;
 /// The number of the first question answered no.
 pub type Refusal = u32;
 
-#[derive(Clone, PartialEq)]
+#[derive(Clone)]
 pub struct Action {
     pub kind: char,
     pub weight: u32,
     pub also: u32,
 }
 
-#[derive(Clone, Default, PartialEq)]
+#[derive(Clone, Default)]
 pub struct Rule {
     pub head: u32,
     pub needs: u32,
@@ -28,14 +28,14 @@ pub struct Rule {
     pub unless: Vec<u32>,
 }
 
-#[derive(Clone, Default, PartialEq)]
+#[derive(Clone, Default)]
 pub struct Policy {
     pub levels: Vec<u32>,
     pub actions: Vec<Action>,
     pub rules: Vec<Rule>,
 }
 
-#[derive(Clone, PartialEq)]
+#[derive(Clone)]
 pub struct Query {
     pub want: u32,
     pub done: u32,

@@ -1,38 +1,32 @@
-//! What the program `probe` prints for a file: its edition, and the answers of each call to every set offered, to lists
-//! of each length, to each w, to buffers of several lengths, to queries out of range and to spoilt policies.
+//! What the program `probe` prints for a file: the answers of each call to every set offered, to lists of each
+//! length, to each w, to buffers of several lengths, to queries out of range and to spoilt policies.
 
 use crate::engine::{check, Engine};
 use crate::levels::lowest;
 use crate::policy::{Action, Policy, Query, Refusal, Rule, MOST_DECISIONS, MOST_QUERIES};
-use crate::reader::{read, File};
 use crate::run::commas;
 use crate::words::{SETS, TOP_W};
-use crate::writer;
+use crate::{reader, writer};
 
 /// With more actions the lines are few.
 const MOST_ACTIONS: usize = 8;
-/// The bytes lent to write what is spoilt; nothing that is written is longer.
+/// The bytes lent to write what is spoilt; no accepted file is longer.
 const LENT: usize = 27_300;
 
 pub fn probe(input: &[u8]) -> String {
-    match read(input) {
-        Err(number) => format!("refused={number}\n"),
-        Ok(File { edition, policy, queries }) => {
-            let lines = if policy.actions.len() > MOST_ACTIONS { many_actions } else { few_actions };
-            format!("edition={edition}\n{}", lines(&policy, &queries))
-        }
+    let (policy, queries) = match reader::read(input) {
+        Err(number) => return format!("refused={number}\n"),
+        Ok(read) => read,
+    };
+    if policy.actions.len() > MOST_ACTIONS {
+        return many_actions(&policy, &queries);
     }
-}
-
-/// All that is printed below the edition.
-fn few_actions(policy: &Policy, queries: &[Query]) -> String {
-    let mut text = format!("check={}\n{}\n", number(check(policy)), levels(policy));
-    let file = writer::text(&writer::lines(policy, queries, 1)).len();
-    for length in [0, file - 1, file, file + 3] {
-        text += &format!("write {length} {}\n", write(policy, queries, length));
+    let mut text = format!("check={}\n{}\n", number(check(&policy)), levels(&policy));
+    for length in [0, input.len() - 1, input.len(), input.len() + 3] {
+        text += &format!("write {length} {}\n", write(&policy, &queries, length));
     }
-    let mut engine = Engine::new(policy);
-    for query in queries {
+    let mut engine = Engine::new(&policy);
+    for query in &queries {
         text += &named(query);
         text += &offers(&mut engine, query, 1 << policy.actions.len());
         text += &lists(&mut engine, query);
@@ -43,10 +37,10 @@ fn few_actions(policy: &Policy, queries: &[Query]) -> String {
         text += &out_of_range(&mut engine, "done", &over);
     }
     if let Some(query) = queries.first() {
-        for (name, spoilt) in spoilt(policy) {
-            text += &format!("spoilt {name} {}\n", calls(&spoilt, query, queries));
+        for (name, spoilt) in spoilt(&policy) {
+            text += &format!("spoilt {name} {}\n", calls(&spoilt, query, &queries));
         }
-        text += &spoilt_queries(policy, queries);
+        text += &spoilt_queries(&policy, &queries);
     }
     text
 }

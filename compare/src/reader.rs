@@ -1,6 +1,5 @@
-//! From the bytes of a file of edition 1 or 2 to the record, with the reader's questions in document 01's order: 1 to the
-//! input, 2 to 4 to each line in turn, and 11 to a rule's number, 2 to what follows the last line, then 5 and 6 to the
-//! whole.
+//! From the bytes of a file to the record, with the reader's questions in document 01's order: 1 to the input, 2 to
+//! 4 to each line in turn, 2 to what follows the last line, then 5 and 6 to the whole.
 
 use crate::policy::{
     ask, rises, Action, Policy, Query, Refusal, Rule, MOST_ACTIONS, MOST_DECISIONS, MOST_LISTED, MOST_QUERIES,
@@ -8,14 +7,6 @@ use crate::policy::{
 };
 
 pub const MOST_BYTES: usize = 32_768;
-
-/// What a file states, and in which edition.
-#[derive(PartialEq)]
-pub struct File {
-    pub edition: u32,
-    pub policy: Policy,
-    pub queries: Vec<Query>,
-}
 
 /// The input from the line that is due.
 struct Lines<'a>(&'a [u8]);
@@ -41,15 +32,6 @@ impl<'a> Lines<'a> {
         Ok(number as usize)
     }
 
-    /// A file without an edition line is of edition 1, and 2 is the one edition that such a line may name.
-    fn edition(&mut self) -> Result<u32, Refusal> {
-        if self.0.starts_with(b"edition=") {
-            self.number("edition", 2, 2)
-        } else {
-            Ok(1)
-        }
-    }
-
     fn kind(&mut self) -> Result<char, Refusal> {
         match self.content("kind")? {
             b"p" => Ok('p'),
@@ -69,21 +51,6 @@ impl<'a> Lines<'a> {
         ask(4, rises(&list))?;
         Ok(list)
     }
-
-    /// The number that edition 2 puts before a rule: its place.
-    fn place(&mut self, place: usize) -> Result<(), Refusal> {
-        let number = self.count("rule", 0, MOST_RULES - 1)?;
-        ask(11, number == place)
-    }
-
-    fn rule(&mut self, top_decision: u32, top_mask: u32) -> Result<Rule, Refusal> {
-        Ok(Rule {
-            head: self.number("head", 0, top_decision)?,
-            needs: self.number("needs", 0, top_mask)?,
-            ifs: self.list("if", top_decision)?,
-            unless: self.list("unless", top_decision)?,
-        })
-    }
 }
 
 /// 1 to 5 digits, with no leading zero except 0 itself.
@@ -94,18 +61,17 @@ fn number(text: &[u8]) -> Result<u32, Refusal> {
     Ok(text.iter().fold(0, |sum, &digit| 10 * sum + u32::from(digit - b'0')))
 }
 
-/// What the lines state, or the first no.
-pub fn read(input: &[u8]) -> Result<File, Refusal> {
-    let file = read_lines(input)?;
-    file.policy.ordered()?;
-    Ok(file)
+/// The policy and the queries that the lines state, or the first no.
+pub fn read(input: &[u8]) -> Result<(Policy, Vec<Query>), Refusal> {
+    let (policy, queries) = read_lines(input)?;
+    policy.ordered()?;
+    Ok((policy, queries))
 }
 
 /// The same without questions 5 and 6.
-pub fn read_lines(input: &[u8]) -> Result<File, Refusal> {
+pub fn read_lines(input: &[u8]) -> Result<(Policy, Vec<Query>), Refusal> {
     ask(1, input.len() <= MOST_BYTES)?;
     let mut lines = Lines(input);
-    let edition = lines.edition()?;
     let decisions = lines.count("decisions", 1, MOST_DECISIONS)?;
     let actions = lines.count("actions", 0, MOST_ACTIONS)?;
     let top_decision = decisions as u32 - 1;
@@ -121,16 +87,18 @@ pub fn read_lines(input: &[u8]) -> Result<File, Refusal> {
             also: lines.number("also", 0, top_mask)?,
         });
     }
-    for place in 0..lines.count("rules", 0, MOST_RULES)? {
-        if edition == 2 {
-            lines.place(place)?;
-        }
-        policy.rules.push(lines.rule(top_decision, top_mask)?);
+    for _ in 0..lines.count("rules", 0, MOST_RULES)? {
+        policy.rules.push(Rule {
+            head: lines.number("head", 0, top_decision)?,
+            needs: lines.number("needs", 0, top_mask)?,
+            ifs: lines.list("if", top_decision)?,
+            unless: lines.list("unless", top_decision)?,
+        });
     }
     let mut queries = Vec::new();
     for _ in 0..lines.count("queries", 0, MOST_QUERIES)? {
         queries.push(Query { want: lines.number("want", 0, top_decision)?, done: lines.number("done", 0, top_mask)? });
     }
     ask(2, lines.0.is_empty())?;
-    Ok(File { edition, policy, queries })
+    Ok((policy, queries))
 }

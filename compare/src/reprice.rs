@@ -4,7 +4,7 @@
 use crate::engine::Engine;
 use crate::policy::{has, Policy, Query, Refusal, MOST_DECISIONS};
 use crate::probe::named;
-use crate::reader::{read, read_lines, File};
+use crate::reader::{read, read_lines};
 use crate::writer::lines;
 
 /// The least cost of a set that clears a query, or none.
@@ -16,8 +16,8 @@ pub fn reprice(before: &[u8], after: &[u8]) -> String {
 }
 
 fn costs_of_files(before: &[u8], after: &[u8]) -> Result<String, Refusal> {
-    let File { policy: before, queries, .. } = read(before)?;
-    let File { policy: after, .. } = read(after)?;
+    let (before, queries) = read(before)?;
+    let (after, _) = read(after)?;
     let (mut first, mut second) = (Engine::new(&before), Engine::new(&after));
     for query in &queries {
         second.questions(query, 0)?;
@@ -34,7 +34,7 @@ fn costs_of_files(before: &[u8], after: &[u8]) -> Result<String, Refusal> {
 
 /// Whether two policies are equal but for at most one weight. A count that differs shows in its own line.
 pub fn comparable(one: &Policy, other: &Policy) -> bool {
-    let (one, other) = (lines(one, &[], 1), lines(other, &[], 1));
+    let (one, other) = (lines(one, &[]), lines(other, &[]));
     let mut differing = one.iter().zip(&other).filter(|(line, other)| line != other);
     differing.clone().count() <= 1 && differing.all(|(line, _)| line.starts_with("weight="))
 }
@@ -69,8 +69,8 @@ fn both_costs(before: &mut Engine, after: &mut Engine, query: &Query) -> String 
 
 /// What `pairprobe` prints.
 pub fn pairprobe(before: &[u8], after: &[u8]) -> String {
-    let both = read_lines(before).and_then(|before| Ok((before, read_lines(after)?.policy)));
-    let (File { policy: before, queries, .. }, after) = match both {
+    let both = read_lines(before).and_then(|(before, queries)| Ok((before, queries, read_lines(after)?.0)));
+    let (before, queries, after) = match both {
         Err(number) => return format!("refused={number}\n"),
         Ok(both) => both,
     };

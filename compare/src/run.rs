@@ -2,16 +2,16 @@
 
 use crate::engine::Engine;
 use crate::policy::{Query, Refusal};
-use crate::reader::{read, File};
+use crate::reader;
 use std::fmt::{Display, Write};
 
 /// The places that the program lends List.
 const LENT: usize = 32_768;
 
 pub fn run(input: &[u8]) -> String {
-    match read(input) {
+    match reader::read(input) {
         Err(number) => format!("refused={number}\n"),
-        Ok(File { policy, queries, .. }) => {
+        Ok((policy, queries)) => {
             let mut engine = Engine::new(&policy);
             let answers = queries.iter().map(|query| answer(&mut engine, query));
             answers.collect::<Result<String, Refusal>>().expect("an accepted file is worked")

@@ -1,16 +1,15 @@
 //! From a policy and its queries to a file of edition 1, document 01's format. A record has one form, so an accepted
-//! file of edition 1 is what is written for what was read from it. The files of a seed are made from the same lines, or
-//! from those of edition 2.
+//! file is what is written for what was read from it. The files of a seed are made from the same lines.
 
 use crate::policy::{ask, Policy, Query, Refusal, MOST_QUERIES};
-use crate::reader::{read, File, MOST_BYTES};
+use crate::reader::{read, MOST_BYTES};
 use crate::run::commas;
 
-/// What the program `rewrite` prints for a file of either edition.
+/// What the program `rewrite` prints for a file.
 pub fn rewrite(input: &[u8]) -> String {
     match read(input) {
         Err(number) => format!("refused={number}\n"),
-        Ok(File { policy, queries, .. }) => {
+        Ok((policy, queries)) => {
             let mut lent = vec![0; MOST_BYTES];
             let length = write(&policy, &queries, &mut lent).expect("an accepted file is written");
             lent.truncate(length);
@@ -25,17 +24,15 @@ pub fn write(policy: &Policy, queries: &[Query], lent: &mut [u8]) -> Result<usiz
     let queries_in_range = queries.len() <= MOST_QUERIES && queries.iter().all(|query| policy.is_query(query));
     ask(3, policy.in_range() && queries_in_range)?;
     policy.ordered()?;
-    let file = text(&lines(policy, queries, 1));
+    let file = text(&lines(policy, queries));
     ask(10, file.len() <= lent.len())?;
     lent[..file.len()].copy_from_slice(&file);
     Ok(file.len())
 }
 
-/// The lines that state a policy and its queries, in or out of range, in edition 1 or 2.
-pub fn lines(policy: &Policy, queries: &[Query], edition: u32) -> Vec<String> {
-    let mut lines = if edition == 2 { vec!["edition=2".to_string()] } else { Vec::new() };
-    lines.push(format!("decisions={}", policy.levels.len()));
-    lines.push(format!("actions={}", policy.actions.len()));
+/// The lines that state a policy and its queries, in or out of range.
+pub fn lines(policy: &Policy, queries: &[Query]) -> Vec<String> {
+    let mut lines = vec![format!("decisions={}", policy.levels.len()), format!("actions={}", policy.actions.len())];
     lines.extend(policy.levels.iter().map(|level| format!("level={level}")));
     for action in &policy.actions {
         lines.push(format!("kind={}", action.kind));
@@ -43,10 +40,7 @@ pub fn lines(policy: &Policy, queries: &[Query], edition: u32) -> Vec<String> {
         lines.push(format!("also={}", action.also));
     }
     lines.push(format!("rules={}", policy.rules.len()));
-    for (place, rule) in policy.rules.iter().enumerate() {
-        if edition == 2 {
-            lines.push(format!("rule={place}"));
-        }
+    for rule in &policy.rules {
         lines.push(format!("head={}", rule.head));
         lines.push(format!("needs={}", rule.needs));
         lines.push(format!("if={}", commas(&rule.ifs)));

@@ -34,8 +34,8 @@ lists l m = sure (same_list l m) (list_iff l m)
 pub a_rule : (r r' : Rule) → (same_rule r r' ≡ true) ↔ (cut_rule r ≡ cut_rule r')
 a_rule r r' = sure (same_rule r r') (rule-iff r r')
 
-pub all_rules_lem : (l m : List Rule) → (paired same_rule l m ≡ true) ↔ (map cut_rule l ≡ map cut_rule m)
-all_rules_lem l m = sure (paired same_rule l m) (paired-iff same_rule cut_rule rule-iff l m)
+pub all_rules : (l m : List Rule) → (paired same_rule l m ≡ true) ↔ (map cut_rule l ≡ map cut_rule m)
+all_rules l m = sure (paired same_rule l m) (paired-iff same_rule cut_rule rule-iff l m)
 
 pub an_action : (x y : Action) → (same_but_weight x y ≡ true) ↔ (weighing x y.weight ≡ y)
 an_action x y = sure (same_but_weight x y) (action_iff x y)

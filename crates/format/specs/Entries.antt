@@ -1,5 +1,5 @@
 -- The lines of a policy and of its queries, and the record that they state.
-use Rattle.std.specs.Prelude.{ℕ, ◌-◌, ◌^◌, true, false, List, [], eqb, length}
+use Rattle.std.specs.Prelude.{ℕ, ◌-◌, ◌^◌, List, [], length}
 use Rattle.base.specs.Lists.{filled}
 use Rattle.policy.specs.declared.Policy.{Policy}
 use Rattle.policy.specs.declared.Rule.{Rule}
@@ -8,13 +8,8 @@ use Rattle.policy.specs.declared.Action.{Action}
 use Rattle.policy.specs.Record.{no_action}
 pub use Rattle.policy.specs.Record.{zero_query}
 use Rattle.format.specs.Text.{ascii}
-use Rattle.format.specs.Parser.{Parser, ◌>>=◌, ◌>>◌, found, pure, ask, stand, numbered, times}
-use Rattle.format.specs.Editions.{newest, numbering, since}
+use Rattle.format.specs.Parser.{Parser, ◌>>=◌, ◌>>◌, pure, times}
 use Rattle.format.specs.Format.{decisions_of, number_line, kind_line, list_line}
-
--- the number of the edition, where the file begins with it; or it is edition 1
-unfoldable pub edition_line : Parser ℕ
-edition_line s = elim (stand (ascii "edition=") s) [ true ↦ number_line (ascii "edition") numbering newest s | false ↦ found 1 s ]
 
 -- what stands past the count of rules
 unfoldable pub zero_rule : Rule
@@ -37,18 +32,6 @@ rule n m = do
   u ← list_line (ascii "unless") n
   pure (record { head = h; needs = a; ifs = i; unless = u })
 
--- the number of rule k, which is its place: question 11
-unfoldable pub rule_line : ℕ → Parser (Unit {0})
-rule_line k = do
-  i ← number_line (ascii "rule") 0 255
-  ask 11 (eqb i k)
-
--- all lines of rule k in the edition e
-unfoldable pub rule_in : ℕ → ℕ → ℕ → ℕ → Parser Rule
-rule_in e n m k = do
-  since numbering e tt (rule_line k)
-  rule n m
-
 -- two lines of a query
 unfoldable pub query : ℕ → ℕ → Parser Query
 query n m = do
@@ -68,11 +51,11 @@ record_of n m levels actions rules =
       rule = filled 256 zero_rule rules;
     }
 
--- the lines of a policy after its two counts, in the edition e: the levels, the actions and the rules
-unfoldable pub entries : ℕ → ℕ → ℕ → Parser Policy
-entries e n m = do
+-- the lines of a policy after its two counts: the levels, the actions and the rules
+unfoldable pub entries : ℕ → ℕ → Parser Policy
+entries n m = do
   levels ← times n (number_line (ascii "level") 0 15)
   actions ← times m (action m)
   r ← number_line (ascii "rules") 0 256
-  rules ← numbered 0 r (rule_in e n m)
+  rules ← times r (rule n m)
   pure (record_of n m levels actions rules)

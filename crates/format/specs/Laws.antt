@@ -1,9 +1,8 @@
--- The lines read their texts and no others; how long a text is; a record with zeros past its counts has the same text and
--- answers; and where a refusal by 11 comes from.
+-- The lines read their texts and no others; how long a text is; and a record with zeros past its counts has the same text and
+-- answers.
 pub mod Reads
 pub mod Numbers
 pub mod Lines
-pub mod Editions
 pub mod Lists
 pub mod Records
 pub mod Policies
@@ -13,5 +12,3 @@ pub mod Size
 pub mod Cleared
 pub mod Lookups
 pub mod Stated
-pub mod Refusals
-pub mod Begun

@@ -2,7 +2,6 @@
 pub mod Bounds
 pub mod Text
 pub mod Parser
-pub mod Editions
 pub mod Format
 pub mod Entries
 pub mod Written

@@ -1,4 +1,4 @@
-// The bounds and editions of a file, and the entries of zeros that stand past the counts of its record.
+// The bounds of a file, and the entries of zeros that stand past the counts of its record.
 ghost use Rattle.std.specs.Prelude.{[], ◌≡◌};
 ghost use Rattle.policy.specs.Record.{no_action};
 ghost use Rattle.format.specs.Format.{decisions_of};
@@ -9,14 +9,8 @@ use policy::{Action, Decisions, Kind, MOST_LISTED, Rule};
 // A file has at most so many bytes.
 pub const MOST_BYTES: usize = 32768;
 
-// No accepted record has a longer file of edition 1.
+// No accepted record has a longer file.
 pub const LONGEST_FILE: usize = 27294;
-
-// Editions have numbers from 1 on.
-pub const NEWEST: u16 = 2;
-
-// From this edition on a file begins with the number of its edition, and each rule with its own.
-pub const NUMBERING: u16 = 2;
 
 // A list of no decision.
 pub fn list_of_none() -> Decisions

@@ -1,7 +1,6 @@
 -- Laws that the proofs of the functions cite.
 pub mod Bytes
 pub mod Steps
-pub mod Editions
 pub mod Numbers
 pub mod OneMore
 pub mod Held

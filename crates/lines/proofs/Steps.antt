@@ -4,11 +4,10 @@ use mathlib.Core.Path.{◌≡◌, refl, sym, ap, subst, ◌∙◌}
 use mathlib.Core.Bool.{Bool, true, false}
 use mathlib.Core.List.{List, [], ◌∷◌, ◌++◌}
 use native.Mathlib.Numerals.{add-one}
-use native.Mathlib.Omega.{arith}
 use lib.ListN.{length-append, drop, set}
 use Rattle.base.specs.Lists.{filled}
 use Rattle.base.specs.Laws.Lists.{filled_snoc}
-use Rattle.format.specs.Parser.{Outcome, Parser, refused, found, onward, ◌>>=◌, pure, ask, numbered}
+use Rattle.format.specs.Parser.{Outcome, Parser, refused, found, onward, ◌>>=◌, pure, ask, times}
 use Rattle.lines.specs.declared.Place.{Place}
 use Rattle.lines.specs.declared.Place.TheVariants.{Refused, At}
 use Rattle.lines.specs.Places.{on_from, Parsed, ParsedTimes}
@@ -57,55 +56,50 @@ module _ {A B : Type 0} {s : List ℕ} where
       within (At at) = refl
 
 module _ {s : List ℕ} (n : ℕ) {t : Bool} {p : Place} where
-  -- a question answered yes, one answered no, and that before what follows
+  -- a question answered yes, and one answered no
   pub asked : t ≡ true → Parsed s p (ask n t) p tt
   unfolding on_from ask
   asked e = record { same = ap (λ t. on_from s p (ask n t)) (sym e) }
 
-  pub refuted : {at : ℕ} → p ≡ At at → t ≡ false → Parsed s p (ask n t) (Refused n) tt
-  unfolding ask
-  refuted {at} e h = refused_at e (ap (λ t. ask n t (drop at s)) h)
-
   pub denied : {B : Type 0} (f : Unit {0} → Parser B) {at : ℕ} {b : B} → p ≡ At at → t ≡ false → Parsed s p (ask n t >>= f) (Refused n) b
-  denied f e h = next f (refuted e h) (stays refl)
+  unfolding ask
+  denied f {at} e h = next f (refused_at e (ap (λ t. ask n t (drop at s)) h)) (stays refl)
 
-module _ {A : Type 0} where
+module _ {A : Type 0} (m : Parser A) where
   -- the last of n + 1 turns
-  last : Parser A → List A → Parser (List A)
-  last m l = m >>= (λ a. pure (l ++ (a ∷ [])))
+  last : List A → Parser (List A)
+  last l = m >>= (λ a. pure (l ++ (a ∷ [])))
 
   -- its outcome in front of an entry
-  last_front : (m : Parser A) (a : A) (l : List A) (t : List ℕ) → last m (a ∷ l) t ≡ onward (λ r. pure (a ∷ r)) (last m l t)
+  last_front : (a : A) (l : List A) (t : List ℕ) → last (a ∷ l) t ≡ onward (λ r. pure (a ∷ r)) (last l t)
   unfolding last onward
-  last_front m a l t = go (m t)
+  last_front a l t = go (m t)
     where
       go : (o : Outcome A) → onward (λ b. pure ((a ∷ l) ++ (b ∷ []))) o ≡ onward (λ r. pure (a ∷ r)) (onward (λ b. pure (l ++ (b ∷ []))) o)
       go (refused n) = refl
       go (found b rest) = refl
 
-  last_turn : (m : ℕ → Parser A) (i n j : ℕ) → j ≡ i + n → (t : List ℕ) → (numbered i n m >>= last (m j)) t ≡ numbered i (suc n) m t
-  unfolding numbered last onward
-  last_turn m i zero j e t = ap (λ k. onward (λ a. pure (a ∷ [])) (m k t)) (e ∙ omega arith)
-  last_turn m i (suc n) j e t = go (last_turn m (suc i) n j (omega (arith, e))) (m i t)
+  last_turn : (n : ℕ) (t : List ℕ) → (times n m >>= last) t ≡ times (suc n) m t
+  unfolding times last onward
+  last_turn zero t = refl
+  last_turn (suc n) t = go (last_turn n) (m t)
     where
-      inner : (a : A) (o : Outcome (List A)) → onward (last (m j)) (onward (λ r. pure (a ∷ r)) o)
-          ≡ onward (λ r. pure (a ∷ r)) (onward (last (m j)) o)
+      inner : (a : A) (o : Outcome (List A)) → onward last (onward (λ r. pure (a ∷ r)) o) ≡ onward (λ r. pure (a ∷ r)) (onward last o)
       inner a (refused n) = refl
-      inner a (found l rest) = last_front (m j) a l rest
+      inner a (found l rest) = last_front a l rest
 
-      go : ((t : List ℕ) → (numbered (suc i) n m >>= last (m j)) t ≡ numbered (suc i) (suc n) m t) → (o : Outcome A) →
-          onward (last (m j)) (onward (λ a. numbered (suc i) n m >>= (λ r. pure (a ∷ r))) o)
-          ≡ onward (λ a. numbered (suc i) (suc n) m >>= (λ r. pure (a ∷ r))) o
+      go : ((t : List ℕ) → (times n m >>= last) t ≡ times (suc n) m t) → (o : Outcome A) →
+          onward last (onward (λ a. times n m >>= (λ r. pure (a ∷ r))) o) ≡ onward (λ a. times (suc n) m >>= (λ r. pure (a ∷ r))) o
       go ih (refused n) = refl
-      go ih (found a rest) = inner a (numbered (suc i) n m rest) ∙ ap (onward (λ r. pure (a ∷ r))) (ih rest)
+      go ih (found a rest) = inner a (times n m rest) ∙ ap (onward (λ r. pure (a ∷ r))) (ih rest)
 
 -- a loop over the entries of an array
-module _ {A : Type 0} {s : List ℕ} {from : Place} {m : ℕ → Parser A} {size : ℕ} {z : A} where
+module _ {A : Type 0} {s : List ℕ} {from : Place} {m : Parser A} {size : ℕ} {z : A} where
   pub begins : {array : List A} → array ≡ filled size z [] → ParsedTimes s from 0 m from size z array
-  unfolding numbered
+  unfolding times
   begins e = record { entries = []; count = refl; held = e; parsed = ends refl }
 
-  pub turns : {i : ℕ} {p q : Place} {a : A} {array : List A} → i < size → ParsedTimes s from i m p size z array → Parsed s p (m i) q a →
+  pub turns : {i : ℕ} {p q : Place} {a : A} {array : List A} → i < size → ParsedTimes s from i m p size z array → Parsed s p m q a →
       ParsedTimes s from (i + 1) m q size z (set array i a)
   unfolding last
   turns {i} {p} {q} {a} l w h =
@@ -113,8 +107,7 @@ module _ {A : Type 0} {s : List ℕ} {from : Place} {m : ℕ → Parser A} {size
         entries = w.entries ++ (a ∷ []);
         count = length-append w.entries (a ∷ []) ∙ ap (λ k. k + 1) w.count;
         held = rw (w.held, ← w.count) (filled_snoc size z w.entries a (rw w.count l));
-        parsed = rw add-one
-            (same_parser (last_turn m 0 i i (omega arith)) (next (last (m i)) w.parsed (next _ h (ends refl))));
+        parsed = rw add-one (same_parser (last_turn m i) (next (last m) w.parsed (next _ h (ends refl))));
       }
 
   pub all_turns : {i n : ℕ} {p : Place} {array : List A} → ParsedTimes s from i m p size z array → i ≡ n →

@@ -2,7 +2,7 @@
 use Rattle.std.specs.Prelude.{ℕ, suc, ◌-◌, ◌≡◌, true, false, List, [], ◌∷◌, map, length, take, drop, T, eqb}
 use Rattle.base.specs.Every.{every}
 use Rattle.base.specs.Lists.{filled}
-use Rattle.format.specs.Parser.{Outcome, refused, Parser, pure, numbered}
+use Rattle.format.specs.Parser.{Outcome, refused, Parser, pure, times}
 use Rattle.format.specs.Format.{is_number, spelt, is_list}
 use Rattle.lines.specs.declared.Place.{Place}
 use Rattle.lines.specs.declared.Place.TheVariants.{Refused, At}
@@ -20,13 +20,13 @@ on_from s (At at) m = m (drop at s)
 pub record Parsed {A : Type 0} (s : List ℕ) (from : Place) (m : Parser A) (to : Place) (a : A) : Type 0 where
   pub same : on_from s to (pure a) ≡ on_from s from m
 
--- the parsers m 0 up to m (n - 1), into an array that is filled up to its size with z
-pub record ParsedTimes {A : Type 0} (s : List ℕ) (from : Place) (n : ℕ) (m : ℕ → Parser A) (to : Place) (size : ℕ) (z : A)
-    (array : List A) : Type 0 where
+-- the same n times over, into an array that is filled up to its size with z
+pub record ParsedTimes {A : Type 0} (s : List ℕ) (from : Place) (n : ℕ) (m : Parser A) (to : Place) (size : ℕ) (z : A) (array : List A)
+    : Type 0 where
   pub entries : List A
   pub count : length entries ≡ n
   pub held : array ≡ filled size z entries
-  pub parsed : Parsed s from (numbered 0 n m) to entries
+  pub parsed : Parsed s from (times n m) to entries
 
 -- the bytes of a line's contents
 abbrev pub contents : List ℕ → Content → List ℕ

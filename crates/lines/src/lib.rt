@@ -1,13 +1,8 @@
-// Reading one line of a file: one with a number, one with a kind, and in `lists` one with a list; and the lines that only some
-// editions have.
+// Reading one line of a file: one with a number, one with a kind, and in `lists` one with a list.
 ghost use Rattle.std.specs.Prelude.{◌≤◌, max};
-ghost use Rattle.format.specs.Editions.{newest, numbering, since};
-ghost use Rattle.format.specs.Entries.{edition_line, rule_line};
 ghost use Rattle.format.specs.Format.{number_line, kind_line};
-ghost use Rattle.lines.specs.declared.Place.TheVariants.{At};
 ghost use Rattle.lines.specs.Places.{Parsed};
 
-use format::{NEWEST, NUMBERING};
 use policy::Kind;
 use text::Spelt;
 
@@ -60,36 +55,6 @@ pub fn number_line(s: &[u8], from: Place, key: &[u8], lo: u16, hi: u16) -> Numbe
     }
     let value = number as u16;
     NumberAt { place, value }
-}
-
-// The number of the edition that the file begins with, or 1 where it begins with none.
-pub fn edition_line(s: &[u8]) -> NumberAt
-    ensures parsed { Parsed s.now (At 0) edition_line result.place result.value }
-    ensures le_value { (1 ≤ result.value) × (result.value ≤ newest) }
-{
-    let place = Place::At(0);
-    if text::begins(s, b"edition=") {
-        return number_line(s, place, b"edition", NUMBERING, NEWEST);
-    }
-    NumberAt { place, value: 1 }
-}
-
-// The place after the number of rule k, which only some editions have.
-pub fn rule_line(s: &[u8], from: Place, edition: u8, k: u16) -> Place
-    ensures { Parsed s.now from (since numbering edition tt (rule_line k)) result tt }
-{
-    if (edition as u16) < NUMBERING {
-        return from;
-    }
-    let number = number_line(s, from, b"rule", 0, 255);
-    let place = number.place;
-    let Place::At(_) = place else {
-        return place;
-    };
-    if number.value != k {
-        return Place::Refused(11);
-    }
-    place
 }
 
 // A kind, p or o.

@@ -1,6 +1,6 @@
 // The bytes of a line: its key, its contents, a number.
 ghost use Rattle.std.specs.Prelude.{◌≡◌, ◌+◌, ◌≤◌, length, drop};
-ghost use Rattle.format.specs.Parser.{exactly, stand};
+ghost use Rattle.format.specs.Parser.{exactly};
 ghost use Rattle.format.specs.Format.{line};
 ghost use Rattle.lines.specs.Places.{Parsed, contents, number_of, before};
 
@@ -52,16 +52,6 @@ fn pass(s: &[u8], from: Place, key: &[u8]) -> Place
         at += 1;
     }
     Place::At(at)
-}
-
-// Whether the text begins with these bytes.
-pub(crate) fn begins(s: &[u8], key: &[u8]) -> bool
-    ensures { result ≡ stand key.now s.now }
-{
-    match pass(s, Place::At(0), key) {
-        Place::At(_) => true,
-        Place::Refused(_) => false,
-    }
 }
 
 // The line with this key.

@@ -1,5 +1,5 @@
-// The program `probe`: reads a file from standard input, and writes its edition and what the engine's calls and the writer return
-// for its policy and queries.
+// The program `probe`: reads a file from standard input, and writes what the engine's
+// calls and the writer return for its policy and queries.
 use base::smaller;
 use format::MOST_BYTES;
 use out::{keyed, text};
@@ -55,8 +55,6 @@ fn main() {
         text(b"\n");
         return;
     }
-    keyed(b"edition=", reading.edition as u32);
-    text(b"\n");
     let policy = reading.policy;
     let queries = reading.queries;
     if policy.actions > 8 {

@@ -15,7 +15,7 @@ use Rattle.lines.specs.Places.{on_from, Parsed}
 use Rattle.lines.proofs.Bytes.{from}
 use Rattle.lines.proofs.Steps.{ends, stays, found_at, refused_at, next}
 use Rattle.reader.specs.declared.Reading.{Reading}
-use Rattle.reader.specs.File.{refused_reading, lines, draft, handed, asked, draft_of, read_of}
+use Rattle.reader.specs.File.{refused_reading, lines, draft, handed, draft_of, read_of}
 use Rattle.reader.specs.Claim.{DraftStates, Drafts, Reads}
 use Rattle.reader.specs.Laws.Files.{number, read_refused, read_passed, read_denied}
 use Rattle.reader.specs.Laws.Means.{drafts, reads}
@@ -35,11 +35,11 @@ input s = ask 1 (leb (length s) most_bytes) >> draft
 
 module _ {s : List ℕ} {p : Place} {a : Reading} (h : Parsed s (At 0) (input s) p a) where
   pub hands_refusal : {r : Reading} {n : ℕ} → p ≡ Refused n → r ≡ refused_reading n → r ≡ draft_of s
-  unfolding draft_of asked handed on_from
+  unfolding draft_of handed on_from
   hands_refusal e f = f ∙ sym (ap (λ p. handed (on_from s p (pure a))) e) ∙ ap handed h.same
 
   pub hands_reading : {at : ℕ} → p ≡ At at → a ≡ draft_of s
-  unfolding draft_of asked handed on_from
+  unfolding draft_of handed on_from
   hands_reading e = sym (ap (λ p. handed (on_from s p (pure a))) e) ∙ ap handed h.same
 
 -- after the last line, which ends at a place

@@ -16,18 +16,12 @@ module _ (s : List ℕ) where
   found = found_levels (draft_of s).policy
 
   abbrev pub mended : Reading
-  mended = record {
-    refusal = 0;
-    edition = (draft_of s).edition;
-    policy = with_levels (draft_of s).policy found.level;
-    queries = (draft_of s).queries;
-  }
+  mended = record { refusal = 0; policy = with_levels (draft_of s).policy found.level; queries = (draft_of s).queries }
 
   pub record Mends : Type 0 where
-    -- where levels are found and question 6 is answered yes, the mended file, in the edition that it has, is accepted and read as the
-    -- draft with these levels
+    -- where levels are found and question 6 is answered yes, the mended file is accepted and read as the draft with these levels
     pub read : (draft_of s).refusal ≡ 0 → found.refusal ≡ 0 → weights_fit (draft_of s).policy ≡ true
-        → read_of (file_of mended.edition mended.policy mended.queries.count mended.queries.at) ≡ mended
+        → read_of (file_of mended.policy mended.queries.count mended.queries.at) ≡ mended
     -- for an accepted file they are found, and its queries are answered alike
     pub finds : AcceptedFile s → found.refusal ≡ 0
     pub alike : AcceptedFile s → (i : ℕ) → i < (read_of s).queries.count

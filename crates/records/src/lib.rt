@@ -1,5 +1,5 @@
-// The lines of a policy and its queries, in edition 1, put into a lent buffer behind its first `at` bytes. Each function returns
-// where its text ends; bytes that do not fit are dropped.
+// The lines of a policy and its queries, put into a lent buffer behind its first `at` bytes. Each function returns where its
+// text ends; bytes that do not fit are dropped.
 ghost use Rattle.std.specs.Prelude.{◌++◌, take};
 ghost use Rattle.policy.specs.Record.{listed};
 ghost use Rattle.format.specs.Text.{ascii};
@@ -109,7 +109,7 @@ fn put_queries(buffer: &mut [u8], at: usize, query: [Query; MOST_QUERIES], count
 
 // Puts the lines of a policy after its two counts.
 fn put_entries(buffer: &mut [u8], at: usize, policy: Policy) -> usize
-    ensures { Puts buffer.old at (entries_text 1 policy) buffer.new result }
+    ensures { Puts buffer.old at (entries_text policy) buffer.new result }
 {
     let level = policy.level;
     let action = policy.action;
@@ -123,7 +123,7 @@ fn put_entries(buffer: &mut [u8], at: usize, policy: Policy) -> usize
 
 // Puts the whole file at the start of the buffer.
 pub fn put_file(buffer: &mut [u8], policy: Policy, queries: Queries) -> usize
-    ensures { Puts buffer.old 0 (file_of 1 policy queries.count queries.at) buffer.new result }
+    ensures { Puts buffer.old 0 (file_of policy queries.count queries.at) buffer.new result }
 {
     let query = queries.at;
     let at = text::line(buffer, 0, b"decisions=", policy.decisions as u32);

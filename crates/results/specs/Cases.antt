@@ -1,10 +1,11 @@
 -- Document 01's run whole: from the bytes of its file to the texts that `clear` prints.
-use Rattle.std.specs.Prelude.{ℕ, List, [], ◌∷◌, ◌++◌, ◌≡◌, length, take}
-use Rattle.std.proofs.Common.{sym, ◌∙◌, ap}
+use Rattle.std.specs.Prelude.{ℕ, List, [], ◌∷◌, ◌++◌, ◌≡◌, refl, length, take}
+use Rattle.std.proofs.Common.{◌∙◌, ap}
+use Rattle.base.specs.Every.{every, every_below}
 use Rattle.base.specs.Lists.{filled}
 use Rattle.policy.specs.declared.Query.{Query}
 use Rattle.policy.specs.Cases.{sample, ask}
-use Rattle.policy.specs.Questions.{Accepted}
+use Rattle.policy.specs.Questions.{levels_fit, rule_levels_fit, levels_below, weights_fit, outweighs, heavier, rises, Accepted}
 use Rattle.engine.specs.declared.Choice.{Choice}
 use Rattle.engine.specs.declared.Firing.{Firing}
 use Rattle.engine.specs.declared.Answer.{Answer}
@@ -14,10 +15,21 @@ use Rattle.engine.specs.Cases.Run.{run, tested}
 use Rattle.engine.specs.Laws.{claim_holds, not_to_touch}
 use Rattle.format.specs.Text.{ascii, decimal, decimal_by}
 use Rattle.format.specs.Written.{line_of, joined, commas}
-use Rattle.reader.specs.File.{reading_of}
-use Rattle.reader.specs.Cases.{text, numbered_text, read_text, read_numbered}
+use Rattle.format.specs.Parser.{onward, ask as asking, exactly, rest_of_line, end, times}
+use Rattle.format.specs.Format.{is_digit, is_number, spelt, cut, parts, is_letter, kind_of, is_list, decisions_of, line, number_line, kind_line}
+use Rattle.format.specs.Format.{list_line}
+use Rattle.format.specs.Entries.{zero_rule, action, rule, query, record_of, entries}
+use Rattle.reader.specs.File.{reading_of, refused_reading, lines, draft, file, handed, read_of}
+use Rattle.reader.specs.Cases.{text}
 use Rattle.results.specs.Printed.{answer_text, sets_listed, rules_fired, result_text, reading_texts, clear_texts}
 use Rattle.results.specs.Laws.Listed.{lists_slim}
+
+-- what is read of it
+read_text : read_of text ≡ reading_of sample (ask 0 0 ∷ ask 0 2 ∷ ask 0 8 ∷ [])
+unfolding text sample every every_below levels_fit rule_levels_fit levels_below weights_fit outweighs heavier rises
+    onward asking exactly rest_of_line end times is_digit is_number spelt cut parts is_letter kind_of line number_line kind_line is_list list_line
+    filled decisions_of zero_rule action rule query record_of reading_of refused_reading entries lines draft file handed read_of
+read_text = refl
 
 -- the text of a query by its answer, its slim sets and the rules fired for the best
 chosen_text : (q : Query) (c : Choice) (sets rules : List ℕ) → Accepted sample q → choose_of sample q ≡ Chosen c
@@ -58,8 +70,3 @@ pub printed : clear_texts text ≡
     ∷ ascii "want=0\nbest=0\nkeep=2\ncost=0\nslim=1\nlist=0\nfired=0,3\n" ∷ []
 unfolding clear_texts reading_texts refused_or reading_of filled
 printed = ap reading_texts read_text ∙ (λ i. first i ∷ second i ∷ third i ∷ [])
-
--- its file of edition 2 is answered alike
-pub printed_numbered : clear_texts numbered_text ≡ clear_texts text
-unfolding clear_texts reading_texts refused_or reading_of
-printed_numbered = ap reading_texts read_numbered ∙ sym (ap reading_texts read_text)

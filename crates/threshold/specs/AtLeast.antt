@@ -73,4 +73,4 @@ eight = record { want = number 16 8; done = 0 }
 
 -- the policy and its one query, as a file states them
 unfoldable pub stated : Reading
-stated = reading_of 1 at_least (eight ∷ [])
+stated = reading_of at_least (eight ∷ [])

@@ -17,7 +17,7 @@ use Rattle.engine.specs.Laws.Refusals.{refused}
 use Rattle.writer.specs.declared.Written.{Written}
 use Rattle.writer.specs.declared.Written.TheVariants.{Refused, Length}
 use Rattle.writer.specs.Writing.{file_text, write_questions, write_of, write_after, Writes}
-use Rattle.reader.specs.Records.{AcceptedRecord}
+use Rattle.writer.specs.Claim.{AcceptedRecord}
 use Rattle.writer.specs.Laws.Saved.{length_written, file_written, write-means}
 
 module _ (p : Policy) (qs : Queries) {vs ws : List Val}

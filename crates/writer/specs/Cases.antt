@@ -8,9 +8,7 @@ use Rattle.policy.specs.Questions.{heavier, query_in_range, queries_in_range}
 use Rattle.policy.specs.declared.Queries.{Queries}
 use Rattle.engine.specs.Calls.{refused_or}
 use Rattle.format.specs.Text.{decimal, decimal_by}
-use Rattle.format.specs.Written.{line_of, joined, commas, letter_of, each, each_numbered, level_text, action_text, rule_text, rule_text_in}
-use Rattle.format.specs.Written.{query_text, entries_text, edition_text, lines_of, file_of}
-use Rattle.format.specs.Editions.{since_text}
+use Rattle.format.specs.Written.{line_of, joined, commas, letter_of, each, level_text, action_text, rule_text, query_text, entries_text, file_of}
 use Rattle.reader.specs.Cases.{text}
 use Rattle.writer.specs.declared.Written.TheVariants.{Refused, Length}
 use Rattle.writer.specs.Writing.{write_questions, write_of, write_after}
@@ -29,6 +27,6 @@ cases : (write_after sample (asked 3) (replicate 317 42) ≡ text ++ (42 ∷ [])
     × (write_of sample (asked 65) 316 ≡ Refused 3)
 unfolding sample text asked every every_below first_no questions in_range others_in_range counts_in_range level_in_range action_in_range
     rule_in_range list_in_range lists_rise rule_rises rises levels_fit rule_levels_fit levels_below weights_fit outweighs heavier query_in_range
-    refused_or decimal decimal_by line_of joined commas letter_of each each_numbered since_text level_text action_text rule_text rule_text_in
-    query_text entries_text edition_text lines_of file_of queries_in_range write_questions write_of write_after
+    refused_or decimal decimal_by line_of joined commas letter_of each level_text action_text rule_text query_text entries_text file_of
+    queries_in_range write_questions write_of write_after
 cases = (refl, refl, refl, refl)

@@ -1,14 +1,21 @@
 -- What is claimed of the files that the writer writes (document 02, F-2).
 use Rattle.std.specs.Prelude.{ℕ, ◌≤◌, List, ◌++◌, ◌≡◌, length, drop}
 use Rattle.policy.specs.declared.Policy.{Policy}
-use Rattle.policy.specs.Record.{Agree}
+use Rattle.policy.specs.Record.{Agree, Sized}
 use Rattle.policy.specs.declared.Queries.{Queries}
+use Rattle.policy.specs.Questions.{record_questions}
+use Rattle.engine.specs.Meaning.{AllYes}
 use Rattle.format.specs.Bounds.{longest_file}
 use Rattle.reader.specs.File.{read_of}
 use Rattle.reader.specs.Claim.{AcceptedFile}
-use Rattle.reader.specs.Records.{AgreeQueries, AcceptedRecord}
 use Rattle.writer.specs.declared.Written.TheVariants.{Length}
-use Rattle.writer.specs.Writing.{file_text, write_of, write_after, Writes}
+use Rattle.writer.specs.Writing.{AgreeQueries, file_text, write_of, write_after, Writes}
+
+-- a policy and its queries that a program holds, in arrays as long as their structs declare, and accepted
+pub record AcceptedRecord (p : Policy) (qs : Queries) : Type 0 where
+  pub policy : Sized p
+  pub queries : length qs.at ≡ 64
+  pub answers : AllYes (record_questions p qs)
 
 -- two records give the same bytes and the same answer, with every buffer
 pub record SameFile (p : Policy) (qs : Queries) (p' : Policy) (qs' : Queries) : Type 0 where
@@ -29,5 +36,5 @@ pub record Saves : Type 0 where
   pub short : (p : Policy) (qs : Queries) → AcceptedRecord p qs → length (file_text p qs) ≤ longest_file
   -- records that agree below their counts give the same bytes
   pub same : (p p' : Policy) (qs qs' : Queries) → Agree p p' → AgreeQueries qs qs' → SameFile p qs p' qs'
-  -- each accepted edition 1 file is the writer's output for its record
-  pub whole : (s : List ℕ) → AcceptedFile s → (read_of s).edition ≡ 1 → (before : List ℕ) → length s ≤ length before → Rewritten s before
+  -- each accepted file is the writer's output for its record
+  pub whole : (s : List ℕ) → AcceptedFile s → (before : List ℕ) → length s ≤ length before → Rewritten s before

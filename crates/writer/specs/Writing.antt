@@ -1,20 +1,29 @@
 -- What the writer returns, and what the lent buffer holds afterwards.
 use Rattle.std.specs.Prelude.{ℕ, List, [], ◌∷◌, ◌++◌, ◌≡◌, leb, length, take, drop}
 use Rattle.policy.specs.declared.Policy.{Policy}
+use Rattle.policy.specs.Record.{Agree}
 use Rattle.policy.specs.Questions.{Question, first_no, record_questions}
 use Rattle.policy.specs.declared.Queries.{Queries}
 use Rattle.engine.specs.Calls.{refused_or}
 use Rattle.engine.specs.Meaning.{Refuses, AllYes}
 use Rattle.format.specs.Written.{file_of}
+use Rattle.reader.specs.declared.Reading.{Reading}
 use Rattle.reader.specs.File.{read_of}
-use Rattle.reader.specs.Records.{ReadBack}
+use Rattle.reader.specs.Claim.{Clear}
 use Rattle.writer.specs.declared.Written.{Written}
 use Rattle.writer.specs.declared.Written.TheVariants.{Refused, Length}
 
+-- queries without the entries past their count; two that agree below their counts
+abbrev pub cut_queries : Queries → Queries
+cut_queries qs = record { count = qs.count; at = take qs.count qs.at }
+
+abbrev pub AgreeQueries : Queries → Queries → Type 0
+AgreeQueries qs qs' = cut_queries qs ≡ cut_queries qs'
+
 module _ (p : Policy) (qs : Queries) where
-  -- the file of edition 1 that states them
+  -- the file that states them
   abbrev pub file_text : List ℕ
-  file_text = file_of 1 p qs.count qs.at
+  file_text = file_of p qs.count qs.at
 
   -- questions 3 to 6 to the policy with its queries, and then 10: has a buffer of so many bytes room for the file?
   unfoldable pub write_questions : ℕ → List Question
@@ -27,10 +36,17 @@ module _ (p : Policy) (qs : Queries) where
   unfoldable pub write_after : List ℕ → List ℕ
   write_after before = refused_or (first_no (write_questions (length before))) (λ n. before) (file_text ++ drop (length file_text) before)
 
+  -- what is read back is the same record with unused entries zero
+  pub record ReadBack (r : Reading) : Type 0 where
+    pub none : r.refusal ≡ 0
+    pub policy : Agree p r.policy
+    pub queries : AgreeQueries qs r.queries
+    pub clear : Clear r
+
   -- what each case of the answer means, where the buffer held `before` and holds `after`: the file stands at its start, and is
   -- read back; the bytes past it are as they were
   abbrev pub Writes : List ℕ → List ℕ → Written → Type 0
   Writes before after (Refused n) = Refuses (write_questions (length before)) n × (after ≡ before)
   Writes before after (Length n) =
       AllYes (write_questions (length before)) × (n ≡ length file_text) × (take n after ≡ file_text) × (drop n after ≡ drop n before)
-      × ReadBack p qs (read_of (take n after))
+      × ReadBack (read_of (take n after))

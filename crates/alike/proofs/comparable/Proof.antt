@@ -10,7 +10,7 @@ use Rattle.policy.specs.declared.Policy.{Policy}
 use Rattle.policy.specs.Record.{rules_of}
 use Rattle.alike.specs.Comparable.{Comparable, Counts, comparable}
 use Rattle.alike.specs.Laws.{comparable_iff}
-use Rattle.alike.proofs.Told.{all_actions, all_counts, numbers, all_rules_lem, known}
+use Rattle.alike.proofs.Told.{all_actions, all_counts, numbers, all_rules, known}
 use Rattle.alike.proofs.comparable.Statement.{statement}
 use Rattle.alike.proofs.comparable.Tie as tie
 
@@ -47,7 +47,7 @@ returns-3 c =
     let levels = c.before.before.before in
     let counts = levels.before.before in
     let a = counts.before.before.before.before.args in
-    let rules = known c.before.before.same-rules.ensures (all_rules_lem (rules_of a.before) (rules_of a.after)) in
+    let rules = known c.before.before.same-rules.ensures (all_rules (rules_of a.before) (rules_of a.after)) in
     means _ _ (rw (
       tested_yes (known counts.before.same-counts.ensures (all_counts _ _)) counts.if1.false,
       tested_yes (known levels.before.same-levels.ensures (numbers _ _)) levels.if2.false,
@@ -61,7 +61,7 @@ returns-4 c =
     let levels = c.before.before in
     let counts = levels.before.before in
     let a = counts.before.before.before.before.args in
-    let rules = known c.before.same-rules.ensures (all_rules_lem (rules_of a.before) (rules_of a.after)) in
+    let rules = known c.before.same-rules.ensures (all_rules (rules_of a.before) (rules_of a.after)) in
     means _ _ (rw (
       tested_yes (known counts.before.same-counts.ensures (all_counts _ _)) counts.if1.false,
       tested_yes (known levels.before.same-levels.ensures (numbers _ _)) levels.if2.false,

@@ -8,7 +8,7 @@ use Rattle.base.proofs.Tested.{tested_no, tested_yes}
 use Rattle.policy.specs.Record.{no_rule, rules_of}
 use Rattle.policy.proofs.Arrays.{length_mapped}
 use Rattle.alike.specs.Comparable.{paired, same_rule}
-use Rattle.alike.proofs.Told.{a_rule, all_rules_lem, told, known}
+use Rattle.alike.proofs.Told.{a_rule, all_rules, told, known}
 use Rattle.alike.proofs.Pairing.{Matched, matched_none, matched_more, matched_fails, matched_all}
 use Rattle.alike.proofs.same_rules.Statement.{statement}
 use Rattle.alike.proofs.same_rules.Tie as tie
@@ -28,7 +28,7 @@ returns : tie.Need-returns invariant-loop decreases-loop
 returns c =
     let top = c.before.before.before.before.before in
     let args = top.before.before.args in
-    told (all_rules_lem _ _)
+    told (all_rules _ _)
     (matched_fails top.loop.invariant no_rule _ top.before.smaller.ensures c.before.before.before.before.loop-test.true
     (tested_no (known c.before.same.ensures (a_rule _ _)) c.if1.true)
     ∙ ap (λ n. paired same_rule (rules_of args.t1) (take n args.t2.rule)) top.before.before.requires)
@@ -43,7 +43,7 @@ returns-2 : tie.Need-returns-2 invariant-loop decreases-loop
 returns-2 c =
     let top = c.before in
     let args = top.before.before.args in
-    told (all_rules_lem _ _) (matched_all top.loop.invariant _ top.before.smaller.ensures c.loop-test.false
+    told (all_rules _ _) (matched_all top.loop.invariant _ top.before.smaller.ensures c.loop-test.false
     ∙ ap (λ n. paired same_rule (rules_of args.t1) (take n args.t2.rule)) top.before.before.requires)
 
 pub same-rules-spec : {M : Type 1} → statement M

@@ -1,10 +1,10 @@
 -- How long texts are: numbers, lists of numbers, and lines.
 use Rattle.std.specs.Prelude.{ℕ, zero, suc, ◌+◌, ◌*◌, ◌-◌, ◌/◌, ◌^◌, ◌≤◌, ◌<◌, ◌≡◌, List, [], ◌∷◌, length}
 use Rattle.std.proofs.Math.Decide.{dec_lt}
-use Rattle.std.proofs.Common.{arith, ap, length-append}
+use Rattle.std.proofs.Common.{arith, length-append}
 use Rattle.base.specs.Laws.All.{All, all_head, all_tail}
 use Rattle.format.specs.Text.{decimal, decimal_by}
-use Rattle.format.specs.Written.{line_of, joined, commas, each, each_numbered}
+use Rattle.format.specs.Written.{line_of, joined, commas, each}
 use Rattle.format.specs.Laws.Numbers.{decimal_by_length, one_digit, more_digits}
 
 -- a number below 10 ^ k has at most k digits
@@ -35,16 +35,6 @@ pub each_length : {A : Type 0} (f : A → List ℕ) (b : ℕ) (l : List A) → A
 unfolding each
 each_length f b [] h = omega arith
 each_length f b (x ∷ l) h = simp length-append (omega (arith, all_head h, each_length f b l (all_tail h)))
-
--- texts by their entries' numbers, where those of the numbers before k have at most b k bytes
-pub numbered_length : {A : Type 0} (f : ℕ → A → List ℕ) (b : ℕ → ℕ) (i : ℕ) (l : List A)
-    → ((k : ℕ) → k < i + length l → All (λ x. b k + length (f k x) ≤ b (suc k)) l) → b i + length (each_numbered i f l) ≤ b (i + length l)
-unfolding each_numbered
-numbered_length f b i [] h = let same : b i ≡ b (i + 0) = ap b (omega arith) in omega (arith, same)
-numbered_length f b i (x ∷ l) h =
-    let rest = numbered_length f b (suc i) l (λ k less. all_tail (h k (omega arith))) in
-    let same : b (suc i + length l) ≡ b (i + suc (length l)) = ap b (omega arith) in
-    simp length-append (omega (arith, all_head (h i (omega arith)), rest, same))
 
 -- a list of numbers of at most b digits each, with a comma between
 pub commas_length : (b : ℕ) (ds : List ℕ) → All (λ d. length (decimal d) ≤ b) ds → length (commas ds) ≤ suc b * length ds - 1

@@ -10,9 +10,9 @@ use Rattle.policy.specs.Record.{levels_of, actions_of, rules_of, no_action}
 use Rattle.format.specs.Text.{ascii}
 use Rattle.format.specs.Written.{level_text, entries_text}
 use Rattle.format.specs.Entries.{zero_rule, record_of, entries}
-use Rattle.format.specs.Laws.Reads.{Reads, ◌and◌, reads_as, pure_reads, then_reads, numbered_reads, times_reads}
+use Rattle.format.specs.Laws.Reads.{Reads, ◌and◌, reads_as, pure_reads, then_reads, times_reads}
 use Rattle.format.specs.Laws.Lines.{number_reads}
-use Rattle.format.specs.Laws.Records.{ReadableAction, ReadableRule, action_reads, rule_in_reads}
+use Rattle.format.specs.Laws.Records.{ReadableAction, ReadableRule, action_reads, rule_reads}
 
 -- a policy with zeros past its counts
 abbrev pub clear_policy : Policy → Policy
@@ -38,9 +38,9 @@ pub record ReadablePolicy (p : Policy) : Type 0 where
   pub few_actions : p.actions ≤ 16
   pub entries : ReadableEntries p.decisions p.actions p
 
-module _ (e n m : ℕ) (some : 1 ≤ n) (few : n ≤ 128) (h : m ≤ 16) where
+module _ (n m : ℕ) (some : 1 ≤ n) (few : n ≤ 128) (h : m ≤ 16) where
   -- the lines of a policy after its counts
-  pub entries_reads : Reads (entries e n m) (entries_text e) (ReadableEntries n m)
+  pub entries_reads : Reads (entries n m) entries_text (ReadableEntries n m)
   unfolding entries entries_text level_text record_of
   entries_reads =
       reads_as (λ p. rw append-nil)
@@ -67,6 +67,6 @@ module _ (e n m : ℕ) (some : 1 ≤ n) (few : n ≤ 128) (h : m ≤ 16) where
       (times_reads m (action_reads m h))
       (λ a _. then_reads (λ p. p.rules) (λ k p _ g. sym (ap (λ p. p.rules) g.1 ∙ g.0.0))
       (number_reads (ascii "rules") 0 256 (omega arith))
-      (λ k most. then_reads rules_of (λ rs p f g. sym (ap rules_of g ∙ filled_front 256 (length rs) zero_rule rs refl))
-      (numbered_reads 0 k (λ i less. rule_in_reads n m some few h e i (omega (arith, most.1))))
+      (λ k _. then_reads rules_of (λ rs p f g. sym (ap rules_of g ∙ filled_front 256 (length rs) zero_rule rs refl))
+      (times_reads k (rule_reads n m some few h))
       (λ rs _. pure_reads (record_of n m l a rs))))))

@@ -1,5 +1,5 @@
 -- What questions 3 and 4 ask of a record, the lines ask of it with zeros past its counts; and it has the same text and answers.
-use Rattle.std.specs.Prelude.{ℕ, suc, ◌≤◌, ◌<◌, ◌≡◌, refl, true, List, [], ◌∷◌, ◌++◌, map, length, take, get_or, T}
+use Rattle.std.specs.Prelude.{ℕ, ◌≤◌, ◌<◌, ◌≡◌, refl, true, List, [], ◌∷◌, ◌++◌, map, length, take, get_or, T}
 use Rattle.std.proofs.Common.{arith, ap₂, ◌∙◌, length-take-le}
 use Rattle.std.proofs.Math.Path.{sym, ap}
 use Rattle.std.proofs.Math.Facts.{leb_yes, ltb_yes}
@@ -14,8 +14,7 @@ use Rattle.policy.specs.Questions.{rises, level_in_range, action_in_range, list_
 use Rattle.policy.specs.Questions.{lists_rise, levels_fit, weights_fit, query_in_range}
 use Rattle.policy.specs.Laws.{InRange, in_range_lem, list_fits, rule_fits}
 use Rattle.format.specs.Text.{ascii, decimal}
-use Rattle.format.specs.Written.{line_of, each, each_numbered, level_text, action_text, rule_text, rule_text_in}
-use Rattle.format.specs.Written.{entries_text}
+use Rattle.format.specs.Written.{line_of, each, level_text, action_text, rule_text, entries_text}
 use Rattle.format.specs.Format.{decisions_of}
 use Rattle.format.specs.Entries.{zero_query, record_of}
 use Rattle.format.specs.Laws.Cleared.{cleared_rule, cleared}
@@ -69,16 +68,15 @@ rule_cut n m r range eights =
     λ i. record { head = r.head; needs = r.needs; ifs = ifs i; unless = unless i }
 
 -- the text of a rule shows its lists only
-pub rule_text_lem : (e k : ℕ) (r : Rule) → rule_text_in e k (cleared_rule r) ≡ rule_text_in e k r
-unfolding rule_text_in rule_text cleared_rule
-rule_text_lem e k r = rw (listed_of (listed r.ifs), listed_of (listed r.unless))
+rule_text_lem : (r : Rule) → rule_text (cleared_rule r) ≡ rule_text r
+unfolding rule_text cleared_rule
+rule_text_lem r = rw (listed_of (listed r.ifs), listed_of (listed r.unless))
 
 -- entries changed in what their texts do not show have the same texts
-pub texts_same : {A : Type 0} (f : ℕ → A → List ℕ) (g : A → A) → ((k : ℕ) (x : A) → f k (g x) ≡ f k x) → (i : ℕ) (xs : List A)
-    → each_numbered i f (map g xs) ≡ each_numbered i f xs
-unfolding each_numbered
-texts_same f g e i [] = refl
-texts_same f g e i (x ∷ xs) = ap₂ ◌++◌ (e i x) (texts_same f g e (suc i) xs)
+pub texts_same : {A : Type 0} (f : A → List ℕ) (g : A → A) → ((x : A) → f (g x) ≡ f x) → (xs : List A) → each f (map g xs) ≡ each f xs
+unfolding each
+texts_same f g e [] = refl
+texts_same f g e (x ∷ xs) = ap₂ ◌++◌ (e x) (texts_same f g e xs)
 
 -- what question 3 asks of each entry
 record EachInRange (p : Policy) : Type 0 where
@@ -101,7 +99,7 @@ module _ (p : Policy) (sized : Sized p) (range : in_range p ≡ true) (rise : li
   entries : EachInRange p
   entries = each_in_range p (passes _ range)
 
-  pub places : Counted p
+  places : Counted p
   places =
       let c = counts in
       record {
@@ -165,13 +163,13 @@ module _ (p : Policy) (sized : Sized p) (range : in_range p ≡ true) (rise : li
   }
 
   -- it has the same text after its counts
-  pub entries_same : (e : ℕ) → entries_text e (cleared p) ≡ entries_text e p
+  pub entries_same : entries_text (cleared p) ≡ entries_text p
   unfolding entries_text cleared record_of
-  entries_same e = λ i.
+  entries_same = λ i.
       each level_text (levels_same p places i)
       ++ (each action_text (actions_same p places i)
       ++ (line_of (ascii "rules") (decimal (rule_count p places i))
-      ++ (ap (each_numbered 0 (rule_text_in e)) (rules_same p places) ∙ texts_same (rule_text_in e) cleared_rule (rule_text_lem e) 0 (rules_of p)) i))
+      ++ (ap (each rule_text) (rules_same p places) ∙ texts_same rule_text cleared_rule rule_text_lem (rules_of p)) i))
 
   -- and the same answers to questions 5 and 6
   pub levels_asked : levels_fit (cleared p) ≡ levels_fit p

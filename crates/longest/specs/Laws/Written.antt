@@ -13,15 +13,13 @@ use Rattle.format.specs.Bounds.{longest_file}
 use Rattle.format.specs.Laws.Cleared.{cleared, cleared_rule}
 use Rattle.format.specs.Entries.{zero_rule, record_of}
 use Rattle.format.specs.Format.{decisions_of}
-use Rattle.format.specs.Laws.Editions.{first_edition}
-use Rattle.reader.specs.Records.{AcceptedRecord}
 use Rattle.reader.specs.Laws.Cleared.{cleared_reading}
-use Rattle.reader.specs.Laws.Restated.{reads_written}
 use Rattle.reader.specs.File.{reading_of, read_of}
 use Rattle.threshold.specs.AtLeast.{decisions_to, number, without, fewer, having, first_for, rules_for, row, rows, plain, at_least, eight}
 use Rattle.threshold.specs.AtLeast.{stated}
 use Rattle.threshold.specs.Laws.Taken.{accepted}
-use Rattle.writer.specs.Laws.Saved.{short}
+use Rattle.writer.specs.Claim.{AcceptedRecord}
+use Rattle.writer.specs.Laws.Saved.{short, reads_written}
 use Rattle.text.specs.Handing.{text_at}
 use Rattle.printing.specs.Texts.{longest_text, longest_texts}
 use Rattle.text.specs.Laws.Handed.{only_fits}
@@ -72,7 +70,7 @@ unfolding longest_text
 longest_fits i = only_fits longest_file longest_text i (short at_least stated.queries record_accepted)
 
 -- zeros stand past each count
-clear : cleared_reading 1 at_least stated.queries.count stated.queries.at ≡ stated
+clear : cleared_reading at_least stated.queries.count stated.queries.at ≡ stated
 unfolding stated at_least eight decisions_to number without fewer having first_for rules_for row rows plain
     cleared cleared_rule cleared_reading zero_rule record_of reading_of decisions_of filled
 clear = refl
@@ -80,4 +78,4 @@ clear = refl
 -- and the file is read so
 pub reads : read_of longest_text ≡ stated
 unfolding longest_text
-reads = reads_written at_least stated.queries record_accepted 1 first_edition ∙ clear
+reads = reads_written at_least stated.queries record_accepted ∙ clear

@@ -1,7 +1,7 @@
 -- No text is longer than its bound.
 use Rattle.std.specs.Prelude.{ℕ, ◌≤◌, List, ◌≡◌, refl, length, take}
+use Rattle.std.proofs.Common.{◌∙◌, ap, arith, length-take}
 use Rattle.std.proofs.Math.Decide.{ℕ_discrete}
-use Rattle.std.proofs.Common.{arith, length-take}
 use Rattle.policy.specs.declared.Policy.{Policy}
 use Rattle.strata.specs.Levels.{found_levels}
 use Rattle.strata.specs.Laws.Levels.{finds_levels}
@@ -14,11 +14,12 @@ use Rattle.text.specs.Put.{refused_text}
 use Rattle.text.specs.Handing.{text_at}
 use Rattle.text.specs.Laws.Entries.{refused_length}
 use Rattle.text.specs.Laws.Handed.{only_fits}
+use Rattle.reader.specs.declared.Reading.{Reading}
 use Rattle.reader.specs.File.{draft_of, read_of}
-use Rattle.reader.specs.Laws.Restated.{accepted_record}
-use Rattle.writer.specs.Laws.Saved.{short}
+use Rattle.reader.specs.Laws.Files.{draft_of_accepted}
+use Rattle.writer.specs.Laws.Drafts.{draft_short}
 use Rattle.printing.specs.Texts.{longest_levels, found_text, levels_text, levels_texts, rewrite_text, rewrite_texts}
-use Rattle.printing.specs.Laws.Rewritten.{written, text_refused}
+use Rattle.printing.specs.Laws.Rewritten.{rewritten, text_refused}
 
 -- a refusal, or a text that fits where there is none
 either_fits : (size n : ℕ) (text : List ℕ) → 19 ≤ size → (n ≡ 0 → length text ≤ size) → length (refused_or n refused_text text) ≤ size
@@ -52,7 +53,7 @@ levels_fit_lem s i = only_fits longest_levels (levels_text s) i
 -- ---- rewrite
 rewritten_fits : (s : List ℕ) → length (rewrite_text s) ≤ longest_file
 rewritten_fits s = elim (ℕ_discrete (read_of s).refusal 0) [
-  | yes none ↦ rw (written s none) (short _ _ (accepted_record s none))
+  | yes none ↦ rw (rewritten s none) (draft_short s (ap (λ (r : Reading). r.refusal) (draft_of_accepted s none) ∙ none))
   | no some ↦ rw (text_refused s (read_of s).refusal refl some) (omega (arith, refused_length (read_of s).refusal))
 ]
 

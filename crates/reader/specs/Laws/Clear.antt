@@ -56,7 +56,7 @@ module _ (p : Policy) (few_decisions : p.decisions ≤ 128) (few_actions : p.act
   rule_states : (k : ℕ) → k < p.rules → ReadableRule p.decisions p.actions (rule_of p k)
   rule_states k h = e.rule (rule_of p k) (get_or_in p.rule no_rule p.rules k h (omega (arith, rules_full, e.few_rules)))
 
-  pub policy_sized : Sized p
+  policy_sized : Sized p
   unfolding record_of
   policy_sized = record {
     levels = ap (λ (x : Policy). length x.level) e.clear ∙ filled_length 128 0 (levels_of p) (omega (arith, e.level_count));
@@ -144,16 +144,11 @@ module _ {s : List ℕ} {r : Reading} (stated : DraftStates s r) where
         rule = (rule ∙ ap (λ rs. filled 256 zero_rule rs) (sym rules_same)) i;
       }
 
-  pub clear_same : r ≡ cleared_reading r.edition r.policy r.queries.count r.queries.at
+  pub clear_same : r ≡ cleared_reading r.policy r.queries.count r.queries.at
   unfolding cleared_reading reading_of
   clear_same =
       let qs = r.queries in
       let few = queries_few r.policy qs stated.clear.places stated_queries in
       let count = length-take-le qs.count qs.at (omega (arith, stated.clear.places)) in
       let at = refilled 64 qs.count zero_query qs.at stated.clear.places stated.clear.queries in
-      λ i. record {
-        refusal = stated.none i;
-        edition = r.edition;
-        policy = policy_same i;
-        queries = record { count = sym count i; at = at i };
-      }
+      λ i. record { refusal = stated.none i; policy = policy_same i; queries = record { count = sym count i; at = at i } }

@@ -25,7 +25,7 @@ pub record FileLevels (n : ℕ) (level : List ℕ) : Type 0 where
 
 -- the reading with these levels
 abbrev reading_with : Reading → List ℕ → Reading
-reading_with r level = record { refusal = 0; edition = r.edition; policy = with_levels r.policy level; queries = r.queries }
+reading_with r level = record { refusal = 0; policy = with_levels r.policy level; queries = r.queries }
 
 -- lines can state it, if they can state the reading
 module _ (r : Reading) (level : List ℕ) (f : ReadableLines r) (g : FileLevels r.policy.decisions level) where
@@ -52,7 +52,6 @@ module _ (r : Reading) (level : List ℕ) (f : ReadableLines r) (g : FileLevels 
   unfolding reading_of
   lines_with =
       let q = f.policy in record {
-        edition = f.edition;
         policy = record {
           some_decisions = q.some_decisions;
           few_decisions = q.few_decisions;
@@ -62,19 +61,13 @@ module _ (r : Reading) (level : List ℕ) (f : ReadableLines r) (g : FileLevels 
         few = f.few;
         places = f.places;
         queries = f.queries;
-        clear = ap (λ (x : Reading). record {
-          refusal = 0;
-          edition = r.edition;
-          policy = with_levels r.policy level;
-          queries = x.queries;
-        }) f.clear;
+        clear = ap (λ (x : Reading). record { refusal = 0; policy = with_levels r.policy level; queries = x.queries }) f.clear;
       }
 
 -- the file with these levels is read as the draft with these levels
 pub levels_put : (s level : List ℕ) → let r = draft_of s in let p = with_levels r.policy level in
     r.refusal ≡ 0 → FileLevels p.decisions level → levels_fit p ≡ true → weights_fit r.policy ≡ true
-    → read_of (file_of r.edition p r.queries.count r.queries.at)
-    ≡ record { refusal = 0; edition = r.edition; policy = p; queries = r.queries }
+    → read_of (file_of p r.queries.count r.queries.at) ≡ record { refusal = 0; policy = p; queries = r.queries }
 unfolding weights_fit
 levels_put s level e g levels weights =
     let r = draft_of s in

@@ -1,15 +1,15 @@
 -- What is handed back of a draft and of a file means what document 01 says of it.
-use Rattle.std.specs.Prelude.{ℕ, ◌≤◌, ◌<◌, ◌≡◌, refl, Bool, true, false, List, ◌↔◌, ◌≢◌, ◌⊎◌, length}
+use Rattle.std.specs.Prelude.{ℕ, ◌≤◌, ◌<◌, ◌≡◌, refl, Bool, true, false, List, ◌↔◌, ◌≢◌, length}
 use Rattle.std.proofs.Math.Decide.{ℕ_discrete}
-use Rattle.std.proofs.Common.{arith, sym, subst, ◌∙◌}
+use native.Mathlib.Omega.{arith}
+use Rattle.std.proofs.Common.{sym, subst, ◌∙◌}
 use Rattle.std.proofs.Math.Path.{ap}
-use Rattle.std.proofs.Math.Logic.{inl}
+use Rattle.base.specs.Laws.Tests.{between_iff}
 use Rattle.policy.specs.Questions.{first_no, check_record_of}
 use Rattle.format.specs.Bounds.{most_bytes}
 use Rattle.format.specs.Parser.{Outcome, refused}
-use Rattle.format.specs.Laws.Reads.{line_number}
 use Rattle.reader.specs.declared.Reading.{Reading}
-use Rattle.reader.specs.File.{reading_of, refused_reading, draft, handed, asked, draft_of, read_of}
+use Rattle.reader.specs.File.{reading_of, refused_reading, draft, handed, draft_of, read_of}
 use Rattle.reader.specs.Claim.{DraftStates, Drafts, Reads}
 use Rattle.reader.specs.Laws.Files.{outcome, Case, too_long, line_fails, lines_state, case, number, answered, read_refused, drafted}
 use Rattle.reader.specs.Laws.Only.{draft_only, only}
@@ -20,7 +20,7 @@ record Refusals (s : List ℕ) (r : Reading) : Type 0 where
   zeros : r.refusal ≢ 0 → r ≡ refused_reading r.refusal
   one : (r.refusal ≡ 1) ↔ (most_bytes < length s)
   lines : 1 < r.refusal → draft s ≡ refused r.refusal
-  few : (r.refusal ≤ 4) ⊎ (r.refusal ≡ 11)
+  few : r.refusal ≤ 4
 
 -- the number that questions 5 and 6 give, and what is handed back with it
 answered_number : (r : Reading) → r.refusal ≡ 0 → (a b : Bool) → (answered r a b).refusal ≡ number a b
@@ -38,14 +38,14 @@ answered_zeros r zero false b n = refl
 
 module _ (s : List ℕ) where
   refusals : Refusals s (draft_of s)
-  unfolding draft_of asked outcome handed refused_reading reading_of
+  unfolding draft_of outcome handed refused_reading reading_of
   refusals = go (case s)
     where
       go : {o : Outcome Reading} → Case s o → Refusals s (handed o)
-      go (too_long h) = record { zeros = λ n. refl; one = (λ e. h, λ h. refl); lines = λ l. absurd (omega arith); few = inl (omega arith) }
-      go (line_fails n h e t) = let some = line_number n t in record {
+      go (too_long h) = record { zeros = λ n. refl; one = (λ e. h, λ h. refl); lines = λ l. absurd (omega arith); few = omega arith }
+      go (line_fails n h e t) = let some = (between_iff 2 n 4).0 t in record {
         zeros = λ n. refl;
-        one = (λ e. absurd (omega (arith, some.0)), λ l. absurd (omega arith));
+        one = (λ e. absurd (omega arith), λ l. absurd (omega arith));
         lines = λ l. e;
         few = some.1;
       }
@@ -53,7 +53,7 @@ module _ (s : List ℕ) where
         zeros = λ n. absurd (n zero);
         one = (λ e. absurd (omega arith), λ l. absurd (omega arith));
         lines = λ l. absurd (omega arith);
-        few = inl (omega (arith, zero));
+        few = omega arith;
       }
 
   pub drafts : Drafts s (draft_of s)

@@ -15,7 +15,7 @@ use Rattle.reader.specs.Laws.Levels.{levels_put}
 
 module _ (s : List ℕ) where
   read : (draft_of s).refusal ≡ 0 → (found s).refusal ≡ 0 → weights_fit (draft_of s).policy ≡ true
-      → read_of (file_of (mended s).edition (mended s).policy (mended s).queries.count (mended s).queries.at) ≡ mended s
+      → read_of (file_of (mended s).policy (mended s).queries.count (mended s).queries.at) ≡ mended s
   read draft none weights =
       let low = (finds_levels (draft_of s).policy).found none in
       levels_put s (found s).level draft (record { places = low.places; small = λ d h. low.range d; zeros = low.past })

@@ -19,8 +19,7 @@ module _ (s : List ℕ) (r : Reading) where
       let range = is_true _ (stated_range stated) in
       let few = queries_few p qs full.places (stated_queries stated) in
       let fit = queries_fit p qs full.places (stated_queries stated) in
-      let back = draft_back r.edition stated.edition p qs.count qs.at full.policy full.places
-      few range stated.rise fit in
+      let back = draft_back p qs.count qs.at full.policy full.places few range stated.rise fit in
       clear_same stated ∙ sym back ∙ ap draft_of (sym stated.text)
 
   pub only : States s r → r ≡ read_of s

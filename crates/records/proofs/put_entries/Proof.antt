@@ -1,10 +1,9 @@
 -- `put_entries` meets its contract: the levels, the actions and the rules stand one behind the other.
-use mathlib.Core.Path.{◌≡◌, sym, ap}
+use mathlib.Core.Path.{◌≡◌, ap}
 use borrow.Author.Rules.{rules}
 use lib.ListN.{length}
 use Rattle.base.proofs.Every.{front_within, front_length, front_take}
 use Rattle.format.specs.Written.{line_of, each, level_text, entries_text}
-use Rattle.format.specs.Laws.Editions.{rules_plain}
 use Rattle.text.specs.Laws.Putting.{both, same_text}
 use Rattle.records.proofs.put_entries.Statement.{statement}
 use Rattle.records.proofs.put_entries.Tie as tie
@@ -36,7 +35,7 @@ returns c =
     let start = front.before.before.before.before.before.before in
     let all = front_take start.args.policy.level _ (long start) front.smaller.ensures in
     both (same_text levels.lines.ensures (ap (each level_text) all))
-    (both actions.put-actions.ensures (both count.line.ensures (same_text rules.put-rules.ensures (sym (rules_plain _)))))
+    (both actions.put-actions.ensures (both count.line.ensures rules.put-rules.ensures))
 
 pub put-entries-spec : {M : Type 1} → statement M
 put-entries-spec =

@@ -1,13 +1,12 @@
 -- `put_file` meets its contract: the lines stand one behind the other.
 use borrow.Author.Rules.{rules}
-use Rattle.format.specs.Written.{line_of, edition_text, lines_of, file_of}
-use Rattle.format.specs.Editions.{since_text}
+use Rattle.format.specs.Written.{line_of, file_of}
 use Rattle.text.specs.Laws.Putting.{both}
 use Rattle.records.proofs.put_file.Statement.{statement}
 use Rattle.records.proofs.put_file.Tie as tie
 
 returns : tie.Need-returns
-unfolding file_of lines_of edition_text since_text line_of
+unfolding file_of line_of
 returns c =
     let queries = c.before.before in
     let count = queries.before.before.before.before in

@@ -74,9 +74,9 @@ rules_of_lem : rules_of at_least ≡ rows 16
 unfolding at_least record_of
 rules_of_lem = filled_front 256 _ zero_rule (rows 16) refl
 
-rule_in_lem : (k : ℕ) → k < 192 → Memᴰ (rule_of at_least k) (rows 16)
+rule_in : (k : ℕ) → k < 192 → Memᴰ (rule_of at_least k) (rows 16)
 unfolding at_least record_of
-rule_in_lem k h = rw rules_of_lem at (get_or_in at_least.rule no_rule at_least.rules k (omega (arith, rules_are))
+rule_in k h = rw rules_of_lem at (get_or_in at_least.rule no_rule at_least.rules k (omega (arith, rules_are))
     (omega (arith, filled_length 256 zero_rule (rows 16) (omega (arith, rows_length)))))
 
 rule_place : (r : Rule) → Memᴰ r (rows 16) → (k : ℕ) × (k < 192) × (rule_of at_least k ≡ r)
@@ -186,7 +186,7 @@ module _ (w : ℕ) where
       omega (arith, ap (counted (has w)) same)
 
   says_closed : (k : ℕ) → Applies at_least w Says M k → Says (head_of at_least k)
-  says_closed k a = says_head (rule_of at_least k) (rule_in_lem k (omega (arith, a.exists, rules_are))) a.enabled a.ifs
+  says_closed k a = says_head (rule_of at_least k) (rule_in k (omega (arith, a.exists, rules_are))) a.enabled a.ifs
 
   -- a world that derives the decision has at least j of the first i actions
   derived : (i j : ℕ) → There i j → M (number i j) → j ≤ counted (has w) i

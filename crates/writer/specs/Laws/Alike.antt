@@ -8,15 +8,14 @@ use Rattle.policy.specs.Questions.{first_no, query_in_range, queries_in_range}
 use Rattle.policy.specs.Laws.Cut.{listed_cut, levels_cut, actions_cut, rules_cut, questions_cut}
 use Rattle.policy.specs.declared.Queries.{Queries}
 use Rattle.engine.specs.Laws.Alike.{refused_same}
-use Rattle.format.specs.Written.{rule_text, rule_text_in, entries_text, lines_of, file_of}
+use Rattle.format.specs.Written.{rule_text, entries_text, file_of}
 use Rattle.format.specs.Laws.Stated.{texts_same}
-use Rattle.reader.specs.Records.{cut_queries, AgreeQueries}
-use Rattle.writer.specs.Writing.{file_text, write_questions, write_of, write_after}
+use Rattle.writer.specs.Writing.{cut_queries, AgreeQueries, file_text, write_questions, write_of, write_after}
 use Rattle.writer.specs.Claim.{SameFile}
 
-rule_text_cut : (k : ℕ) (r : Rule) → rule_text_in 1 k (cut_rule r) ≡ rule_text_in 1 k r
-unfolding rule_text_in rule_text
-rule_text_cut k r = rw (listed_cut r.ifs, listed_cut r.unless)
+rule_text_cut : (r : Rule) → rule_text (cut_rule r) ≡ rule_text r
+unfolding rule_text
+rule_text_cut r = rw (listed_cut r.ifs, listed_cut r.unless)
 
 module _ (p : Policy) (qs : Queries) where
   queries_cut : take qs.count (cut_queries qs).at ≡ take qs.count qs.at
@@ -24,8 +23,8 @@ module _ (p : Policy) (qs : Queries) where
 
   -- the file shows no entry past a count
   text_cut : file_text (cut p) (cut_queries qs) ≡ file_text p qs
-  unfolding file_of lines_of entries_text
-  text_cut = rw (levels_cut p, actions_cut p, rules_cut p, texts_same (rule_text_in 1) cut_rule rule_text_cut 0 (rules_of p), queries_cut)
+  unfolding file_of entries_text
+  text_cut = rw (levels_cut p, actions_cut p, rules_cut p, texts_same rule_text cut_rule rule_text_cut (rules_of p), queries_cut)
 
   -- and the questions look at none
   range_cut : queries_in_range (cut p) (cut_queries qs) ≡ queries_in_range p qs

@@ -4,10 +4,9 @@ use Rattle.std.proofs.Common.{◌∙◌, le→leb}
 use Rattle.policy.specs.Questions.{Question, first_no, levels_fit, weights_fit}
 use Rattle.policy.specs.Laws.{first_no_yes}
 use Rattle.format.specs.Bounds.{longest_file}
-use Rattle.format.specs.Laws.Editions.{first_edition}
-use Rattle.format.specs.Laws.Size.{file_length}
 use Rattle.reader.specs.File.{draft_of}
 use Rattle.reader.specs.Laws.Files.{number, drafted}
+use Rattle.reader.specs.Laws.Readings.{reading_length}
 use Rattle.reader.specs.Laws.States.{draft_states, draft_questions}
 use Rattle.writer.specs.Writing.{file_text, write_questions}
 
@@ -20,18 +19,14 @@ last_yes true false q t = refl
 last_yes false b q t = refl
 
 module _ (s : List ℕ) (none : (draft_of s).refusal ≡ 0) where
-  abbrev file : List ℕ
-  file = file_text (draft_of s).policy (draft_of s).queries
+  -- the file is short
+  pub draft_short : length s ≤ longest_file
+  draft_short = rw (drafted s none).text (reading_length (draft_of s) (drafted s none).lines)
 
-  -- the file that the writer makes of it is short
-  pub draft_short : length file ≤ longest_file
-  draft_short =
-      let r = draft_of s in
-      let f = (drafted s none).lines in
-      file_length 1 first_edition r.policy r.queries.count r.queries.at f.policy f.few f.places f.queries
-
-  pub draft_asked : (places : ℕ) → length file ≤ places → let r = draft_of s in
+  pub draft_asked : (places : ℕ) → length s ≤ places → let r = draft_of s in
       first_no (write_questions r.policy r.queries places) ≡ number (levels_fit r.policy) (weights_fit r.policy)
   unfolding write_questions
   draft_asked places room =
-      draft_questions (draft_states s none) _ ∙ last_yes _ _ _ (le→leb (length file) places room)
+      let stated = draft_states s none in
+      let file = file_text (draft_of s).policy (draft_of s).queries in
+      draft_questions stated _ ∙ last_yes _ _ _ (le→leb (length file) places (rw (← stated.text) room))

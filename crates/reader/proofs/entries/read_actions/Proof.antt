@@ -13,7 +13,7 @@ use Rattle.reader.proofs.entries.read_actions.Statement.{statement}
 use Rattle.reader.proofs.entries.read_actions.Tie as tie
 
 abbrev invariant-loop : tie.invariant-loop
-invariant-loop s m array₀ place₀ i₀ _ _ i-end array place i = ParsedTimes s place₀ i (λ _. action m) place 16 no_action array × (i ≤ m)
+invariant-loop s m array₀ place₀ i₀ _ _ i-end array place i = ParsedTimes s place₀ i (action m) place 16 no_action array × (i ≤ m)
 
 abbrev decreases-loop : tie.decreases-loop
 decreases-loop s m array₀ place₀ i₀ _ _ i-end array place i = i-end - i

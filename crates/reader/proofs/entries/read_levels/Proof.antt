@@ -12,8 +12,7 @@ use Rattle.reader.proofs.entries.read_levels.Statement.{statement}
 use Rattle.reader.proofs.entries.read_levels.Tie as tie
 
 abbrev invariant-loop : tie.invariant-loop
-invariant-loop s n array₀ place₀ i₀ _ i-end array place i =
-    ParsedTimes s place₀ i (λ _. number_line (ascii "level") 0 15) place 128 0 array × (i ≤ n)
+invariant-loop s n array₀ place₀ i₀ _ i-end array place i = ParsedTimes s place₀ i (number_line (ascii "level") 0 15) place 128 0 array × (i ≤ n)
 
 abbrev decreases-loop : tie.decreases-loop
 decreases-loop s n array₀ place₀ i₀ _ i-end array place i = i-end - i

@@ -11,7 +11,7 @@ use Rattle.reader.proofs.entries.read_queries.Statement.{statement}
 use Rattle.reader.proofs.entries.read_queries.Tie as tie
 
 abbrev invariant-loop : tie.invariant-loop
-invariant-loop s k n m array₀ place₀ i₀ _ _ i-end array place i = ParsedTimes s place₀ i (λ _. query n m) place 64 zero_query array × (i ≤ k)
+invariant-loop s k n m array₀ place₀ i₀ _ _ i-end array place i = ParsedTimes s place₀ i (query n m) place 64 zero_query array × (i ≤ k)
 
 abbrev decreases-loop : tie.decreases-loop
 decreases-loop s k n m array₀ place₀ i₀ _ _ i-end array place i = i-end - i
