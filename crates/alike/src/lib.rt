@@ -1,4 +1,6 @@
 // Whether two policies can be compared: they are the same below their counts but for at most one weight.
+#![tactic(auto)]
+
 ghost use Rattle.std.specs.Prelude.{T, true, map, ◌↔◌, ◌≡◌};
 ghost use Rattle.policy.specs.Record.{levels_of, rules_of, cut_rule};
 ghost use Rattle.alike.specs.Comparable.{Counts, comparable, Comparable};

@@ -8,7 +8,7 @@ use Rattle.policy.specs.declared.Action.{Action}
 use Rattle.policy.specs.Record.{no_action}
 pub use Rattle.policy.specs.Record.{zero_query}
 use Rattle.format.specs.Text.{ascii}
-use Rattle.format.specs.Parser.{Parser, ◌>>=◌, ◌>>◌, pure, times}
+use Rattle.format.specs.Parser.{Parser, ◌>>=◌, pure, times}
 use Rattle.format.specs.Format.{decisions_of, number_line, kind_line, list_line}
 
 -- what stands past the count of rules

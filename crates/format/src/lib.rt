@@ -1,4 +1,6 @@
 // The bounds of a file, and the entries of zeros that stand past the counts of its record.
+#![tactic(auto)]
+
 ghost use Rattle.std.specs.Prelude.{[], ◌≡◌};
 ghost use Rattle.policy.specs.Record.{no_action};
 ghost use Rattle.format.specs.Format.{decisions_of};

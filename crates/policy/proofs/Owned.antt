@@ -15,11 +15,9 @@ use Rattle.policy.specs.declared.Rule.{Rule}
 use Rattle.policy.specs.declared.Action.{Action}
 use Rattle.policy.specs.declared.Queries.{Queries}
 use Rattle.policy.specs.Record.{no_rule, no_action, Eights, Sized}
-use Rattle.policy.proofs.Arrays.{length_mapped}
 use Rattle.policy.specs.contracts.Policy as policy
 use Rattle.policy.specs.contracts.Action as action
 use Rattle.policy.specs.contracts.Rule as rule
-use Rattle.policy.specs.contracts.Query as query
 use Rattle.policy.specs.contracts.Queries as queries
 
 -- what owning one thing tells of it, owning a list of them tells of each
@@ -32,7 +30,7 @@ module _ {X : Type 0} (D : Type 0) (own : D → List Val → Fml) (into : X → 
   each_owned one (x ∷ l) (u ∷ us) owned (suc k) less = each_owned one l us owned.1 k (omega arith)
 
 -- a rule's arrays
-rule_owned : (r : Rule) (vs : List Val) → shadow ((rule.the_field).row.own_val ((rule.the_field).into r) vs) → Eights r
+rule_owned : (r : Rule) (vs : List Val) → shadow ((rule.the_row).own_val r vs) → Eights r
 rule_owned r vs own = (search rules, search rules)
 
 -- a weight has 16 bits
@@ -51,16 +49,16 @@ weights_owned l vs own k less =
 pub policy_owned : (p : Policy) (vs : List Val) → shadow ((policy.the_row).own_val p vs) → p.rules ≤ 256 → Sized p
 policy_owned p vs own few =
     let rules = own.1.1.1.1.1.1.1.0 in
-    let count : length p.rule ≡ 256 = length_mapped _ _ (rule.the_field).into p.rule 256 rules.1.0.1 in
-    let eights = each_owned _ (rule.the_field).row.own_val (rule.the_field).into Eights no_rule rule_owned p.rule rules.0
-    rules.1.1 in
+    let count : length p.rule ≡ 256 = rules.1.0.1 in
+    let all : shadow (each Rule (rule.the_row).own_val (map (λ r. r) p.rule) rules.0) = rw (map-id p.rule) rules.1.1 in
+    let eights = each_owned Rule (rule.the_row).own_val (λ r. r) Eights no_rule rule_owned p.rule rules.0 all in
     record {
       levels = search rules;
-      actions = length_mapped _ _ (action.the_field).into p.action 16 own.1.1.1.1.1.1.0.1.0.1;
+      actions = own.1.1.1.1.1.1.0.1.0.1;
       rules = count;
       lists = λ k less. eights k (omega arith);
     }
 
 -- the length of an array of queries
 pub queries_owned : (qs : Queries) (vs : List Val) → shadow ((queries.the_row).own_val qs vs) → length qs.at ≡ 64
-queries_owned qs vs own = length_mapped _ _ (query.the_field).into qs.at 64 own.1.1.1.0.1.0.1
+queries_owned qs vs own = own.1.1.1.0.1.0.1

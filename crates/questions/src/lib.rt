@@ -1,4 +1,6 @@
 // Questions 3 to 6 put to a whole policy, and question 3 to its queries.
+#![tactic(auto)]
+
 ghost use Rattle.std.specs.Prelude.{◌≡◌};
 ghost use Rattle.base.specs.Every.{every};
 ghost use Rattle.policy.specs.Record.{rules_of};
@@ -12,6 +14,7 @@ mod actions;
 mod levels;
 
 // Whether there are 1 to 128 decisions, at most 16 actions and at most 256 rules.
+#[tactic(auto, unfolding(policy::specs::Questions::counts_in_range))]
 fn counts_in_range(decisions: u8, actions: u8, rules: u16) -> bool
     ensures { result ≡ counts_in_range decisions actions rules }
 {
@@ -65,6 +68,7 @@ pub fn in_range(policy: Policy) -> bool
 }
 
 // Question 3 of the policy's queries: are they at most 64, and each in range?
+#[tactic(auto, unfolding(policy::specs::Questions::queries_in_range))]
 pub fn queries_in_range(policy: Policy, queries: Queries) -> bool
     ensures { result ≡ queries_in_range policy queries }
 {

@@ -3,6 +3,8 @@ use Prim.Native.Nat.{ℕ, ◌+◌, ◌-◌, ◌≤◌, ◌<◌, max}
 use mathlib.Core.Bool.{Bool, true, false}
 use mathlib.Core.List.{List}
 use mathlib.Core.Path.{◌≡◌, refl, sym, ◌∙◌, ap}
+use mathlib.Core.Logic.{◌⊎◌, inl, inr}
+use native.Mathlib.Decide.{dec_lt}
 use native.Mathlib.Numerals.{add-one}
 use native.Mathlib.Omega.{arith}
 use lib.ListN.{length, take, get_or, replicate}
@@ -74,6 +76,15 @@ module _ (p : Policy) where
     range : InRange (with_levels p (replicate 128 0))
     range = others_range p (passes (others_in_range p) three)
 
+    -- no levels from 0 to 15 meet a rule that asks for more
+    too_high : (k : ℕ) (level : List ℕ) → k < p.rules → Reached p level → 15 < asked level (rule_of p k) → refused_levels 9 ≡ found_levels p
+    too_high k level h reached high = sym (found_nine p three four (is_false (small p (lowest p)) (λ t.
+        omega (
+          arith,
+          small_each p (lowest p) (reached_lowest p range) t (head_of p k),
+          asked_below p range k h reached (lowest p) (lowest_fits p range t),
+        ))))
+
     module _ {before : List ℕ} {k : ℕ} {level : List ℕ} {raised : Bool} (so : AtTurn before k level raised) (h : k < p.rules) where
       -- rule k raises the level of its head
       pub turn_raised : get_or level (head_of p k) 0 < asked level (rule_of p k) → asked level (rule_of p k) ≤ 15
@@ -88,14 +99,9 @@ module _ (p : Policy) where
       turn_kept low =
           record { now = so.now; since = rw add-one (since_kept p range k h before so.now.reached low raised so.since) }
 
-      -- no levels from 0 to 15 meet a rule that asks for more
+      -- a rule that asks for more is met by no levels
       pub turn_refused : 15 < asked level (rule_of p k) → refused_levels 9 ≡ found_levels p
-      turn_refused high = sym (found_nine p three four (is_false (small p (lowest p)) (λ t.
-          omega (
-            arith,
-            small_each p (lowest p) (reached_lowest p range) t (head_of p k),
-            asked_below p range k h so.now.reached (lowest p) (lowest_fits p range t),
-          ))))
+      turn_refused high = too_high k level h so.now.reached high
 
     -- no level was raised by all rules: they are the lowest
     pub rounds_end : {before : List ℕ} {k : ℕ} {level : List ℕ} {raised : Bool} → p.rules ≤ k
@@ -113,3 +119,11 @@ module _ (p : Policy) where
   fewer_rounds {before} {k} {level} so up =
       let higher : total before < total level = rw up at so.since in
       omega (arith, higher, total_small level so.now.small, so.now.reached.long)
+
+-- a rule asks for 15 at most, or the policy is refused
+pub asks_or_refused : (p : Policy) (k : ℕ) (level : List ℕ) → k < p.rules → AtRound p level → others_in_range p ≡ true → lists_rise p ≡ true
+    → (asked level (rule_of p k) ≤ 15) ⊎ (found_levels p ≡ refused_levels 9)
+asks_or_refused p k level h at three four = elim (dec_lt 15 (asked level (rule_of p k))) [
+  | yes high ↦ inr (sym (too_high p three four k level h at.reached high))
+  | no low ↦ inl (omega arith)
+]

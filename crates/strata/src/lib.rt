@@ -1,4 +1,6 @@
 // Finding levels for a policy: the lowest with which question 5 is answered yes.
+#![tactic(auto)]
+
 ghost use Rattle.std.specs.Prelude.{◌≡◌};
 ghost use Rattle.strata.specs.Levels.{found_levels, FindsLevels};
 
@@ -8,7 +10,7 @@ mod raising;
 
 // What levels answers: the level of each decision. Where a question is answered no, refusal is its number and every entry
 // is 0.
-#[derive(Drop)]
+#[derive(Clone, Copy)]
 pub struct Levelling {
     pub refusal: u8,
     pub level: [u8; MOST_DECISIONS],

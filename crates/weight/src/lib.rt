@@ -1,4 +1,6 @@
 // The cost of a set of actions.
+#![tactic(auto)]
+
 ghost use Rattle.std.specs.Prelude.{◌≡◌, cond, ◌+◌, ◌<◌};
 ghost use Rattle.mask.specs.Mask.{has};
 ghost use Rattle.weight.specs.Cost.{weighed, Bounded};

@@ -7,7 +7,7 @@ use Rattle.base.specs.Laws.Tests.{and_make, and_left, and_right, parts}
 use Rattle.policy.specs.declared.Action.{Action}
 use Rattle.alike.specs.Comparable.{weighing, reweighed_in, paired, same_kind, same_but_weight, differ, changes, same_actions}
 use Rattle.alike.specs.Comparable.{OneWeight}
-use Rattle.alike.specs.Laws.Paired.{equal-iff, kind_iff}
+use Rattle.alike.specs.Laws.Paired.{equal_iff, kind_iff}
 
 -- the front of such a list
 pub front : (n : ℕ) (l : List Action) (a w : ℕ) → take n (reweighed_in l a w) ≡ reweighed_in (take n l) a w
@@ -21,7 +21,7 @@ weighing_is : (x y : Action) → T (same_but_weight x y) → weighing x y.weight
 unfolding same_but_weight
 weighing_is x y t =
     let kind : x.kind ≡ y.kind = (kind_iff _ _).0 (search parts) in
-    let also : x.also ≡ y.also = (equal-iff _ _).0 (search parts) in
+    let also : x.also ≡ y.also = (equal_iff _ _).0 (search parts) in
     λ i. record { kind = kind i; weight = y.weight; also = also i }
 
 but_weight : (x : Action) (w : ℕ) → T (same_but_weight x (weighing x w))
@@ -107,9 +107,9 @@ few_changed [] a w = omega arith
 few_changed (x ∷ l) zero w = omega (arith, none_changed l, one_at_most x (weighing x w))
 few_changed (x ∷ l) (suc a) w = omega (arith, no_change x x refl, few_changed l a w)
 
-pub actions-iff : (l m : List Action) → T (same_actions l m) ↔ OneWeight l m
+pub actions_iff : (l m : List Action) → T (same_actions l m) ↔ OneWeight l m
 unfolding same_actions
-actions-iff l m = (
+actions_iff l m = (
   λ t.
       one_changed l m (and_left (paired same_but_weight l m) (leb (changes l m) 1) t)
       (leb→le (changes l m) 1 (and_right (paired same_but_weight l m) (leb (changes l m) 1) t)),

@@ -9,7 +9,7 @@ use Rattle.base.specs.Counted.{counted}
 use Rattle.base.specs.Laws.Tests.{every_below_at}
 use Rattle.mask.specs.Mask.{◌⊆◌, sized}
 use Rattle.mask.specs.Laws.Layers.{choose, layer}
-use Chains.{chains-middle}
+use Chains.{chains_middle}
 use Width.{Chained, width}
 
 -- none of the sets of n things that the test takes is a subset of another
@@ -18,7 +18,7 @@ Antichain takes n = (a b : ℕ) → a < 2 ^ n → b < 2 ^ n → T (takes a) → 
 
 -- all sets stand at the one place of the one chain over nothing, and are their own rest
 pub sperner : (takes : ℕ → Bool) (n : ℕ) → Antichain takes n → counted takes (2 ^ n) ≤ counted (sized (n / 2)) (2 ^ n)
-sperner takes n free = omega (arith, chains-middle n, layer n (n / 2), width n 1 all)
+sperner takes n free = omega (arith, chains_middle n, layer n (n / 2), width n 1 all)
   where
     all : Chained (2 ^ n) takes (λ x. 0) (λ x. x) n 1
     all = record { in_chain = λ x h t. omega arith; in_rest = λ x h t. h; apart = λ x y h k t u o. free x y h k t u }

@@ -14,8 +14,8 @@ use Rattle.model.specs.Model.{Model, IsModel}
 use Rattle.model.specs.Laws.Strata.{Stratified, stratified}
 use Rattle.model.specs.Laws.Steps.{applies_too}
 use Rattle.model.specs.Laws.Derived.{unfolds, by_rules}
-use Rattle.model.specs.Laws.Invariant.{Good, lower-held}
-use Rattle.model.specs.Laws.Levels.{good-upTo}
+use Rattle.model.specs.Laws.Invariant.{Good, lower_held}
+use Rattle.model.specs.Laws.Levels.{good_up_to}
 
 -- levels play no part in whether a rule applies
 levels_aside : {p : Policy} {f : List ℕ} {w : ℕ} {X M : ℕ → Type 0} {k : ℕ} → Applies p w X M k → Applies (with_levels p f) w X M k
@@ -28,7 +28,7 @@ module _ (p : Policy) (w : ℕ) (s : Stratified p) where
 
   good : Good p w 128 16 whole
   unfolding whole
-  good = good-upTo p w 128 s 16
+  good = good_up_to p w 128 s 16
 
   in_vain : holds whole 128 ≡ false
   in_vain = get_or-eq_default whole.held false {n = 128} (omega (arith, good.size))
@@ -39,7 +39,7 @@ module _ (p : Policy) (w : ℕ) (s : Stratified p) where
     derivable_closed : (k : ℕ) → Applies (with_levels p f) w (Derivable p w) (Derivable p w) k → Derivable p w (head_of p k)
     derivable_closed k a = good.sound (head_of p k) (good.closed in_vain k a.exists (s.levels k a.exists) (record {
       enabled = a.enabled;
-      ifs = λ d m. lower-held p w 128 s 16 whole good in_vain d
+      ifs = λ d m. lower_held p w 128 s 16 whole good in_vain d
           (omega (arith, s.ifs k d a.exists m, s.levels k a.exists)) (a.ifs d m);
       unless = λ d m. untrue (holds whole d) λ h. a.unless d m (good.sound d h);
     }))

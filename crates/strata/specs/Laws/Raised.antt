@@ -27,6 +27,7 @@ module _ (level : List ℕ) (step : ℕ) where
   -- it lies above the level of each decision listed
   above_each : (own : ℕ) (ds : List ℕ) (d : ℕ) → Memᴰ d ds → get_or level d 0 + step ≤ above level step own ds
   unfolding above
+  above_each own [] d m = elim m [ ]
   above_each own (e ∷ ds) d (Memᴰ.head same) = rw same
       (omega (arith, le-max_right own (get_or level e 0 + step), above_own (max own (get_or level e 0 + step)) ds))
   above_each own (e ∷ ds) d (Memᴰ.tail m) = above_each (max own (get_or level e 0 + step)) ds d m

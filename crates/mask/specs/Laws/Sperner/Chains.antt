@@ -53,9 +53,9 @@ layers (suc n) (suc k) =
     (λ m e. let lower : (n + 1 - suc (suc k)) / 2 ≡ m = omega arith in rw (lower, higher) at longer) (layers n k))
 
 -- the sets of no thing are one chain of one set
-pub chains-middle : (n : ℕ) → chains n 1 ≡ choose n (n / 2)
+pub chains_middle : (n : ℕ) → chains n 1 ≡ choose n (n / 2)
 unfolding below
-chains-middle n =
+chains_middle n =
     let low : (n + 1 - 1) / 2 ≡ n / 2 = omega arith in
     let high : (n + 1 + 1) / 2 ≡ suc (n / 2) = omega arith in
     omega (arith, rw (low, high) at (layers n 1))

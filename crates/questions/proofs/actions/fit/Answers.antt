@@ -1,0 +1,23 @@
+-- `actions::fit` meets its contract: each of the first a actions outweighs the actions of its also mask.
+use mathlib.Core.Path.{sym, ◌∙◌}
+use native.Mathlib.Omega.{arith}
+use borrow.Author.Rules.{rules}
+use Rattle.base.proofs.Every.{passed_none, passed_more, passed_fails, passed_all}
+use Rattle.policy.specs.Record.{no_action}
+use Rattle.questions.proofs.actions.fit.Goals as goal
+
+pub loop-a-init : goal.loop-a-init
+loop-a-init c = passed_none (search rules) (omega arith)
+
+pub returns-then-not-outweighs : goal.returns-then-not-outweighs
+returns-then-not-outweighs c =
+    passed_fails c.loop-a.invariant no_action _ c.smaller-end.ensures (omega arith)
+    (sym c.outweighs.ensures ∙ c.if-not-outweighs.true)
+
+pub loop-a-preserved : goal.loop-a-preserved
+loop-a-preserved c =
+    passed_more c.loop-a.invariant no_action (omega arith) (sym c.outweighs.ensures ∙ c.if-not-outweighs.false)
+
+pub returns : goal.returns
+returns c =
+    passed_all c.loop-a.invariant _ c.smaller-end.ensures c.loop-a-test.false
