@@ -1,4 +1,6 @@
 // The 64 sets of a word, bit i for the set 64 w + i: which of them have an action, which are offered, and which enable a rule.
+#![tactic(auto)]
+
 ghost use Rattle.std.specs.Prelude.{◌≡◌, ◌≤◌, ◌<◌, ◌^◌};
 ghost use Rattle.model.specs.World.{world_in};
 ghost use Rattle.mask.specs.Mask.{has};

@@ -1,5 +1,7 @@
 // A table of marks in words, bit i of word w for the set 64 w + i: which sets have a subset in a family, and which are its
 // minimal members. The table is filled from the first word on.
+#![tactic(auto)]
+
 ghost use Rattle.std.specs.Prelude.{◌≡◌, ◌^◌, ◌≤◌, ◌<◌};
 ghost use Rattle.covers.specs.Covers.{word_count, moved, closed_of, less_of, low_of, covered_of, slim_of};
 ghost use Rattle.policy.specs.Record.{most_actions};
@@ -53,7 +55,7 @@ pub fn low(table: &[u64; WORDS], w: u16) -> u64
 }
 
 // Of the 64 sets of a word those with a subset in the family, and the minimal members.
-#[derive(Drop)]
+#[derive(Clone, Copy)]
 pub struct Both {
     pub covered: u64,
     pub slim: u64,

@@ -1,5 +1,7 @@
 // What not to touch beside a set that is enough: the keep-off mask with the fewest actions. For the engine alone: it has asked the
 // questions that these functions require.
+#![tactic(auto)]
+
 ghost use Rattle.std.specs.Prelude.{◌≡◌, ◌^◌, ◌≤◌, length};
 ghost use Rattle.std.specs.Int.Count.{ones};
 ghost use Rattle.mask.specs.Family.{lightest};

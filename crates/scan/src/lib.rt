@@ -1,5 +1,7 @@
 // The rules that fire in the world of a set, until the wanted decision is held. For the engine alone: it has asked the questions that
 // these functions require.
+#![tactic(auto)]
+
 ghost use Rattle.std.specs.Prelude.{◌≡◌, cond, not, ◌<◌, length, replicate};
 ghost use Rattle.base.specs.Every.{every};
 ghost use Rattle.base.specs.Lists.{filled};
@@ -12,7 +14,7 @@ ghost use Rattle.model.specs.Fire.{is_held, can_fire, fired_of};
 use policy::{Decisions, MOST_DECISIONS, Policy, Query, Rule};
 
 // The rules that fired, in order: `count` of them, and zeros behind them.
-#[derive(Drop)]
+#[derive(Clone, Copy)]
 pub struct FiredRules {
     pub count: u8,
     pub rules: [u8; MOST_DECISIONS],

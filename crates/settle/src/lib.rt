@@ -1,4 +1,6 @@
 // The words of the decisions, settled level by level: bit i of a word stands for the i-th of 64 sets.
+#![tactic(auto)]
+
 ghost use Rattle.std.specs.Prelude.{ℕ, ◌≤◌};
 ghost use Rattle.policy.specs.declared.Query.{Query};
 ghost use Rattle.policy.specs.Laws.{InRange};

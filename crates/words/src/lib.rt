@@ -1,4 +1,6 @@
 // The models of the 64 sets of a word, for the engine alone: it has asked the questions that these functions require.
+#![tactic(auto)]
+
 ghost use Rattle.std.specs.Prelude.{◌≡◌, ℕ, ◌≤◌, ◌<◌, get_or};
 ghost use Rattle.base.specs.Laws.Tables.{Tabled};
 ghost use Rattle.policy.specs.declared.Query.{Query};
@@ -15,7 +17,7 @@ use policy::{LEVELS, MOST_ACTIONS, MOST_DECISIONS, MOST_RULES, Policy, Query};
 
 // What is in every world, what each action leads to by itself, and an order of the rules: those of level l stand at the places
 // from start[l] up to start[l + 1], and none before uses[d] asks for decision d as an if.
-#[derive(Drop)]
+#[derive(Clone, Copy)]
 pub struct Plan {
     pub base: u16,
     pub leads: [u16; MOST_ACTIONS],

@@ -1,6 +1,6 @@
 -- `closed_of` marks the sets that have a marked subset, `less_of` those that are marked less one action.
 use Prim.Native.Nat.{ℕ, zero, suc, ◌-◌, ◌^◌, ◌≤◌, ◌<◌, zero-le}
-use Rattle.std.specs.Prelude.{Bool, false, ◌&&◌, ◌||◌, not, ◌⊎◌, ◌≢◌, ◌≡◌, eqb}
+use Rattle.std.specs.Prelude.{Bool, false, ◌&&◌, ◌||◌, not, ◌≢◌, ◌≡◌, eqb}
 use Rattle.std.proofs.Math.Bool.{and-true}
 use Rattle.std.proofs.Math.Logic.{inl, inr, ⊎_elim}
 use Rattle.std.proofs.Math.Path.{refl, sym, ap, subst}

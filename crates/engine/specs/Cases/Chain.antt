@@ -16,7 +16,7 @@ use Rattle.weight.specs.Cost.{cost_of, weighed}
 use Rattle.engine.specs.Sets.{Enough, Slim, Best}
 use Rattle.engine.specs.Calls.{best, clears, enough, fired_for, slim}
 use Rattle.engine.specs.Laws.Decide.{best_found}
-use Rattle.engine.specs.Cases.Decided.{is-enough, is-slim}
+use Rattle.engine.specs.Cases.Decided.{is_enough, is_slim}
 
 -- what the tests say
 record Tested : Type 0 where
@@ -65,10 +65,10 @@ marked_chain = record {
   reached = (follow {a = 1} (follow {a = 0} (start (inr tt)) (lit< tt) tt) (lit< tt) tt, refl);
   one_step = refl;
   world = refl;
-  first = is-slim tested.accepted 1 (lit< tt) tested.first;
+  first = is_slim tested.accepted 1 (lit< tt) tested.first;
   fired = refl;
-  second = is-slim tested.accepted 2 (lit< tt) tested.second;
-  third = is-slim tested.accepted 4 (lit< tt) tested.third;
+  second = is_slim tested.accepted 2 (lit< tt) tested.second;
+  third = is_slim tested.accepted 4 (lit< tt) tested.third;
   best = (best_found chain (ask 0 0) tested.accepted 4 tested.best, refl);
-  done = is-enough tested.done_accepted 0 (record { set = lit< tt; apart = (disjoint_iff 0 1).0 tt }) tested.done;
+  done = is_enough tested.done_accepted 0 (record { set = lit< tt; apart = (disjoint_iff 0 1).0 tt }) tested.done;
 }

@@ -12,7 +12,7 @@ use Rattle.model.specs.Fire.{fired_of, can_fire, fires, tried, pass, passes, up_
 use Rattle.weight.specs.Cost.{cost_of, weighed}
 use Rattle.engine.specs.Sets.{Enough}
 use Rattle.engine.specs.Calls.{clears, enough, fired_for}
-use Rattle.engine.specs.Cases.Decided.{is-enough}
+use Rattle.engine.specs.Cases.Decided.{is_enough}
 
 accepted : Accepted heaviest (ask 0 0)
 unfolding heaviest every every_below first_no questions query_in_range in_range others_in_range counts_in_range level_in_range action_in_range
@@ -33,6 +33,6 @@ pub marked_heaviest : MarkedHeaviest
 unfolding heaviest cost_of weighed
 marked_heaviest = record {
   accepted = accepted;
-  enough = is-enough accepted 65535 (record { set = lit< tt; apart = (disjoint_iff 65535 0).0 tt }) tested;
+  enough = is_enough accepted 65535 (record { set = lit< tt; apart = (disjoint_iff 65535 0).0 tt }) tested;
   cost = refl;
 }

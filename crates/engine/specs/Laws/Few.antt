@@ -19,12 +19,12 @@ use Rattle.model.specs.World.{world_of}
 use Rattle.model.specs.Fire.{up_to, fired_of}
 use Rattle.model.specs.Laws.Marks.{holds}
 use Rattle.model.specs.Laws.Strata.{stratified}
-use Rattle.model.specs.Laws.Levels.{good-upTo}
+use Rattle.model.specs.Laws.Levels.{good_up_to}
 use Rattle.engine.specs.declared.Firing.{Firing}
 use Rattle.engine.specs.declared.Listing.TheVariants.{Refused, Listed}
 use Rattle.engine.specs.Sets.{most_slim}
 use Rattle.engine.specs.Calls.{clears, slim, slim_sets, list_questions, list_of, fired_for, offer_questions, refused_or, fire_of}
-use Rattle.engine.specs.Laws.Refusals.{answered, refused, list_early, list-yes, offer_accepted}
+use Rattle.engine.specs.Laws.Refusals.{answered, refused, list_early, list_yes, offer_accepted}
 
 module _ (p : Policy) (q : Query) where
   -- no slim set is a subset of another
@@ -47,7 +47,7 @@ module _ (p : Policy) (q : Query) (ok : Accepted p q) where
   -- so List is not refused where it is lent so many places or more
   pub list_has_room : (places : ℕ) → most_slim ≤ places → list_of p q places ≡ Listed (length (slim_sets p q))
   unfolding list_of
-  list_has_room places h = answered (first_no (list_questions p q places)) _ _ (list-yes p q places ok (omega (arith, few_slim)))
+  list_has_room places h = answered (first_no (list_questions p q places)) _ _ (list_yes p q places ok (omega (arith, few_slim)))
 
   -- at most 128 rules fire
   few_fired : (s : ℕ) → length (fired_for p q s) ≤ 128
@@ -61,7 +61,7 @@ module _ (p : Policy) (q : Query) (ok : Accepted p q) where
       fired = (up_to p w q.want 16).fired
 
       go : (b : Bool) → length {A = ℕ} (elim b [ true ↦ fired | false ↦ [] ]) ≤ 128
-      go true = omega (arith, (good-upTo p w q.want (stratified p q ok) 16).count)
+      go true = omega (arith, (good_up_to p w q.want (stratified p q ok) 16).count)
       go false = zero-le
 
 -- so a list of so many places is never refused by 8, whatever the policy and the query

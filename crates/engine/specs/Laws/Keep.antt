@@ -107,9 +107,9 @@ module _ (p : Policy) (q : Query) (ok : Accepted p q) (s : ℕ) where
   }
 
   -- a best keep-off mask can always be found where s is enough
-  pub keep-best : Enough p q s → BestKeep p q s (keep_for p q s)
+  pub keep_best : Enough p q s → BestKeep p q s (keep_for p q s)
   unfolding keep_for keep_of found_or0
-  keep-best e = from (lightest keeps ones (2 ^ p.actions)) (lightest_found keeps ones (2 ^ p.actions))
+  keep_best e = from (lightest keeps ones (2 ^ p.actions)) (lightest_found keeps ones (2 ^ p.actions))
     where
       from : (o : Option ℕ) → Found keeps ones (2 ^ p.actions) o → BestKeep p q s (found_or0 o)
       from none f = absurd (f (rest_of p.actions q.done s) (rest_set p.actions q.done s)
@@ -117,15 +117,15 @@ module _ (p : Policy) (q : Query) (ok : Accepted p q) (s : ℕ) where
       from (some k) f = lightest_best k f
 
   -- and there is one at the most
-  pub best-once : (a b : ℕ) → BestKeep p q s a → BestKeep p q s b → a ≡ b
-  best-once a b h k = elim (ℕ_discrete a b)
+  pub best_once : (a b : ℕ) → BestKeep p q s a → BestKeep p q s b → a ≡ b
+  best_once a b h k = elim (ℕ_discrete a b)
       [ yes e ↦ e | no ne ↦ absurd (before_once ones a b (h.least b (λ e. ne (sym e)) k.keeps) (k.least a ne h.keeps)) ]
 
   -- it is 0 where every larger offered set is enough
-  pub keep-zero : ((t : ℕ) → s ⊆ t → Offered p q t → Enough p q t) → Enough p q s → keep_for p q s ≡ 0
-  keep-zero up e = elim (ℕ_discrete (keep_for p q s) 0) [
+  pub keep_zero : ((t : ℕ) → s ⊆ t → Offered p q t → Enough p q t) → Enough p q s → keep_for p q s ≡ 0
+  keep_zero up e = elim (ℕ_discrete (keep_for p q s) 0) [
     | yes z ↦ z
-    | no ne ↦ absurd (before_empty ones (keep_for p q s) (rw ones_zero zero-le) ((keep-best e).least 0 (λ z. ne (sym z)) nothing))
+    | no ne ↦ absurd (before_empty ones (keep_for p q s) (rw ones_zero zero-le) ((keep_best e).least 0 (λ z. ne (sym z)) nothing))
   ]
     where
       nothing : Keeps p q s 0

@@ -25,7 +25,7 @@ use Rattle.model.specs.World.{world_of}
 use Rattle.model.specs.Fire.{State, up_to, fired_of}
 use Rattle.model.specs.Laws.Marks.{holds}
 use Rattle.model.specs.Laws.Strata.{stratified}
-use Rattle.model.specs.Laws.Levels.{good-upTo}
+use Rattle.model.specs.Laws.Levels.{good_up_to}
 use Rattle.weight.specs.Cost.{cost_of}
 use Rattle.engine.specs.declared.Verdict.TheVariants.{Refused as judge-refused, Judged}
 use Rattle.engine.specs.declared.Answer.TheVariants.{Refused as choose-refused}
@@ -35,8 +35,8 @@ use Rattle.engine.specs.Calls.{list_after, check_of, check_record_of, fired_for,
 use Rattle.engine.specs.Sets.{Offered, Enough}
 use Rattle.engine.specs.Meaning.{Checks, Judges, Fires, Chooses, ListsSlim}
 use Rattle.engine.specs.Laws.Refusals.{offer_accepted, list_accepted}
-use Rattle.engine.specs.Laws.Decide.{fired_shows, enough-iff, best_found, none_found, lists}
-use Rattle.engine.specs.Laws.Keep.{keep-best}
+use Rattle.engine.specs.Laws.Decide.{fired_shows, enough_iff, best_found, none_found, lists}
+use Rattle.engine.specs.Laws.Keep.{keep_best}
 
 module _ (p : Policy) (qs : Queries) where
   -- the query of zeros is in range of every policy that is
@@ -71,7 +71,7 @@ module _ (p : Policy) (q : Query) where
     where
       go : (n : ℕ) → first_no (offer_questions p q s) ≡ n
           → Judges p q s (refused_or n judge-refused (Judged (record { enough = enough p q s; cost = cost_of p s })))
-      go zero e = let known = offer_accepted p q s e in (e, enough-iff p q known.0 s known.1, refl)
+      go zero e = let known = offer_accepted p q s e in (e, enough_iff p q known.0 s known.1, refl)
       go (suc n) e = (e, λ z. omega arith)
 
   -- at most 128 rules fire
@@ -83,7 +83,7 @@ module _ (p : Policy) (q : Query) where
       end = up_to p (world_of p q.done s) q.want 16
 
       few : length end.fired ≤ 128
-      few = omega (arith, (good-upTo p (world_of p q.done s) q.want (stratified p q ok) 16).count)
+      few = omega (arith, (good_up_to p (world_of p q.done s) q.want (stratified p q ok) 16).count)
 
       go : (b : Bool) → length {A = ℕ} (elim b [ true ↦ end.fired | false ↦ [] ]) ≤ 128
       go true = few
@@ -94,7 +94,7 @@ module _ (p : Policy) (q : Query) where
   unfolding enough
   fired_none ok s o n = elim (ℕ_discrete (length (fired_for p q s)) 0) [
     | yes e ↦ e
-    | no ne ↦ absurd (n ((enough-iff p q ok s o).0 (rw (ne_eqb (length (fired_for p q s)) 0 ne) tt)))
+    | no ne ↦ absurd (n ((enough_iff p q ok s o).0 (rw (ne_eqb (length (fired_for p q s)) 0 ne) tt)))
   ]
 
   fire_answers : (s : ℕ) → first_no (offer_questions p q s) ≡ 0
@@ -107,7 +107,7 @@ module _ (p : Policy) (q : Query) where
         asked = sym e;
         refused = λ ne. absurd (ne refl);
         shows = λ z h. rw (filled_front 128 (length fired) 0 fired refl)
-            (fired_shows p q known.0 s ((enough-iff p q known.0 s known.1).1 h));
+            (fired_shows p q known.0 s ((enough_iff p q known.0 s known.1).1 h));
         none = fired_none known.0 s known.1;
         few = few;
         places = filled_length 128 0 fired few;
@@ -126,9 +126,9 @@ module _ (p : Policy) (q : Query) where
     past = λ i h. get_or_filled {A = ℕ} 128 i 0;
   }
 
-  pub fire-means : (s : ℕ) → Fires p q s (fire_of p q s)
+  pub fire_means : (s : ℕ) → Fires p q s (fire_of p q s)
   unfolding fire_of refused_or
-  fire-means s = go (first_no (offer_questions p q s)) refl
+  fire_means s = go (first_no (offer_questions p q s)) refl
     where
       go : (n : ℕ) → first_no (offer_questions p q s) ≡ n → Fires p q s
           (refused_or n (λ n. record { refusal = n; count = 0; rules = replicate 128 0 })
@@ -141,11 +141,11 @@ module _ (p : Policy) (q : Query) where
   unfolding answer
   answer_means ok none e = (ok, none_found p q ok e)
   answer_means ok (some s) e =
-      let b = best_found p q ok s e in (ok, b, keep-best p q ok s b.enough, refl, (lists p q ok, refl))
+      let b = best_found p q ok s e in (ok, b, keep_best p q ok s b.enough, refl, (lists p q ok, refl))
 
-  pub choose-means : Chooses p q (choose_of p q)
+  pub choose_means : Chooses p q (choose_of p q)
   unfolding choose_of refused_or Accepted
-  choose-means = go (first_no (query_questions p q)) refl
+  choose_means = go (first_no (query_questions p q)) refl
     where
       go : (n : ℕ) → first_no (query_questions p q) ≡ n
           → Chooses p q (refused_or n choose-refused (answer p q (length (slim_sets p q)) (best p q)))

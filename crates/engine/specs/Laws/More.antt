@@ -55,5 +55,5 @@ module _ (p : Policy) (q : Query) (ok : Accepted p q) where
       (reached_more (λ a. ⊎_elim inl (λ (k : T (has s a)). inr (sub a k))) ((world_holds p q ok q.done s i).0 h))
 
   -- every larger set is enough
-  pub enough-more : NoUnless p → (s t : ℕ) → s ⊆ t → Offered p q t → Enough p q s → Enough p q t
-  enough-more none s t sub o e = record { offered = o; clears = derivable_more p none _ _ (world_more s t sub) q.want e.clears }
+  pub enough_more : NoUnless p → (s t : ℕ) → s ⊆ t → Offered p q t → Enough p q s → Enough p q t
+  enough_more none s t sub o e = record { offered = o; clears = derivable_more p none _ _ (world_more s t sub) q.want e.clears }

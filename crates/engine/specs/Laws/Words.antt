@@ -29,7 +29,7 @@ use Rattle.engine.specs.Sets.{Offered}
 use Rattle.engine.specs.Calls.{refused_or, enough, clears}
 use Rattle.engine.specs.Words.{word_questions, words_of, SaysWords, SixtyFour}
 use Rattle.engine.specs.Laws.{judge_is}
-use Rattle.engine.specs.Laws.Decide.{enough-iff}
+use Rattle.engine.specs.Laws.Decide.{enough_iff}
 use Rattle.engine.specs.Laws.Refusals.{answered, refused}
 
 -- no bit of 0 is set
@@ -103,7 +103,7 @@ module _ (p : Policy) (q : Query) where
           let fine = asking_accepted ok d h in
           let offer : Offered p (asking q d) s = record { set = o.set; apart = o.apart } in
           let is = bit_enough d i h (omega (arith, (accepted_range p q ok).decisions)) k o in
-          let means = enough-iff p (asking q d) fine s offer in (
+          let means = enough_iff p (asking q d) fine s offer in (
             judge_is p (asking q d) fine s offer ∙ ap (λ (b : Bool). Judged (record { enough = b; cost = cost_of p s })) (sym is),
             (λ t. means.0 (subst T is t), λ t. subst T (sym is) (means.1 t)),
           );
