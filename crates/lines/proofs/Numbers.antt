@@ -3,6 +3,7 @@ use Prim.Native.Nat.{ℕ, ◌+◌, ◌*◌, ◌-◌, ◌^◌, ◌≤◌, ◌<◌
 use mathlib.Core.Path.{◌≡◌, refl, ap, subst, ◌∙◌}
 use mathlib.Core.Bool.{Bool, true, false, ◌&&◌, and-false}
 use mathlib.Core.List.{List}
+use mathlib.Core.Logic.{⊎_elim}
 use native.Mathlib.Numerals.{add-one}
 use native.Mathlib.Nat.{pow-suc, pow-le-pow_right}
 use native.Mathlib.Omega.{arith}
@@ -59,6 +60,10 @@ module _ (c : List ℕ) where
   pub nothing : (IsNumber c → ⊥) → Nothing ≡ number_of c
   unfolding number_of
   nothing f = rw (is_false (is_number c) (λ t. f (number_parts c t)), number_of)
+
+  -- a zero in front of other digits
+  pub zero_leads : 1 < length c → get_or c 0 0 ≡ 48 → Nothing ≡ number_of c
+  zero_leads two zero = nothing (λ p. ⊎_elim (λ one. omega arith) (λ other. other zero) p.leads)
 
   pub something : IsNumber c → Number (spelt 0 c) ≡ number_of c
   unfolding number_of

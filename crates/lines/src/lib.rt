@@ -1,4 +1,6 @@
 // Reading one line of a file: one with a number, one with a kind, and in `lists` one with a list.
+#![tactic(auto)]
+
 ghost use Rattle.std.specs.Prelude.{◌≤◌, max};
 ghost use Rattle.format.specs.Format.{number_line, kind_line};
 ghost use Rattle.lines.specs.Places.{Parsed};
@@ -10,20 +12,20 @@ pub mod lists;
 mod text;
 
 // Where reading goes on, or the number of the question answered no.
-#[derive(Drop)]
+#[derive(Clone, Copy)]
 pub enum Place {
     Refused(u8),
     At(usize),
 }
 
 // A number and the place after its line.
-#[derive(Drop)]
+#[derive(Clone, Copy)]
 pub struct NumberAt {
     pub place: Place,
     pub value: u16,
 }
 
-#[derive(Drop)]
+#[derive(Clone, Copy)]
 pub struct KindAt {
     pub place: Place,
     pub kind: Kind,
@@ -49,7 +51,8 @@ pub fn number_line(s: &[u8], from: Place, key: &[u8], lo: u16, hi: u16) -> Numbe
         place = Place::Refused(3);
         return NumberAt { place, value: lo };
     }
-    if (hi as u32) < number {
+    let most = hi as u32;
+    if most < number {
         place = Place::Refused(3);
         return NumberAt { place, value: lo };
     }

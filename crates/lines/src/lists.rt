@@ -7,14 +7,14 @@ use crate::text::Spelt;
 use crate::{Place, text};
 use policy::{Decisions, MOST_LISTED};
 
-#[derive(Drop)]
+#[derive(Clone, Copy)]
 pub struct ListAt {
     pub place: Place,
     pub list: Decisions,
 }
 
 // The parts of a list: whether they are numbers, whether these fit, and then the list.
-#[derive(Drop)]
+#[derive(Clone, Copy)]
 pub struct Parts {
     pub numbers: bool,
     pub fits: bool,

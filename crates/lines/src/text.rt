@@ -7,14 +7,14 @@ ghost use Rattle.lines.specs.Places.{Parsed, contents, number_of, before};
 use crate::Place;
 
 // A line: its contents are the bytes from start to end, and place is what follows it.
-#[derive(Drop)]
+#[derive(Clone, Copy)]
 pub struct Content {
     pub place: Place,
     pub start: usize,
     pub end: usize,
 }
 
-#[derive(Drop)]
+#[derive(Clone, Copy)]
 pub enum Spelt {
     Nothing,
     Number(u32),
@@ -82,6 +82,7 @@ pub(crate) fn line_at(s: &[u8], from: Place, key: &[u8]) -> Content
 }
 
 // Contents as a number.
+#[tactic(auto, using(crate::proofs::Numbers::zero_leads))]
 pub(crate) fn number(c: &[u8]) -> Spelt
     ensures { result ≡ number_of c.now }
 {

@@ -1,5 +1,7 @@
 // What `reprice` prints for the bytes of two files: a refusal, that they are not comparable, or for each query of the first what it
 // costs by both policies. Each function that puts a text into the lent buffer returns where it ends; bytes that do not fit are dropped.
+#![tactic(auto)]
+
 ghost use Rattle.std.specs.Prelude.{[], ◌∷◌, ◌++◌, ◌≡◌, length};
 ghost use Rattle.format.specs.Text.{ascii};
 ghost use Rattle.text.specs.Put.{Puts, refused_text};

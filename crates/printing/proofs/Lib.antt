@@ -1,3 +1,4 @@
 -- Laws that the proofs of the functions cite.
 pub mod Found
 pub mod Rewritten
+pub mod Handed

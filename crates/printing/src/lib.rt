@@ -1,5 +1,7 @@
 // What `levels`, `rewrite` and `longest` print: one text each, handed out into a lent buffer. A text that has no room there is cut;
 // none is longer than LONGEST_LEVELS or `format::LONGEST_FILE`.
+#![tactic(auto)]
+
 ghost use Rattle.std.specs.Prelude.{◌≡◌, length};
 ghost use Rattle.text.specs.Put.{Puts};
 ghost use Rattle.text.specs.Handing.{handed_out, held_after, Hands};

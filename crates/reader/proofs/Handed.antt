@@ -23,11 +23,11 @@ use Rattle.reader.specs.Laws.States.{draft_states, check_number}
 
 -- what equals the definition means what that means
 module _ (s : List ℕ) {r : Reading} where
-  pub draft_means : r ≡ draft_of s → (r ≡ draft_of s) × Drafts s r
-  draft_means e = (e, subst (Drafts s) (sym e) (drafts s))
+  pub draft_means : r ≡ draft_of s → record { value : r ≡ draft_of s; drafts : Drafts s r }
+  draft_means e = record { value = e; drafts = subst (Drafts s) (sym e) (drafts s) }
 
-  pub read_means : r ≡ read_of s → (r ≡ read_of s) × Reads s r
-  read_means e = (e, subst (Reads s) (sym e) (reads s))
+  pub read_means : r ≡ read_of s → record { value : r ≡ read_of s; reads : Reads s r }
+  read_means e = record { value = e; reads = subst (Reads s) (sym e) (reads s) }
 
 -- question 1, then the draft
 abbrev pub input : List ℕ → Parser Reading

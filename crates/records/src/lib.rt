@@ -1,5 +1,7 @@
 // The lines of a policy and its queries, put into a lent buffer behind its first `at` bytes. Each function returns where its
 // text ends; bytes that do not fit are dropped.
+#![tactic(auto)]
+
 ghost use Rattle.std.specs.Prelude.{◌++◌, take};
 ghost use Rattle.policy.specs.Record.{listed};
 ghost use Rattle.format.specs.Text.{ascii};

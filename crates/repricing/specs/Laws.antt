@@ -8,7 +8,7 @@ pub mod Either
 pub mod Means
 use Rattle.repricing.specs.Reprices.{RepricedAction}
 use Effect.{reprices}
-use Either.{raised-either}
+use Either.{raised_either}
 
 pub repriced_action : RepricedAction
-repriced_action = record { raises = reprices; either = raised-either }
+repriced_action = record { raises = reprices; either = raised_either }

@@ -1,4 +1,6 @@
 // What a repriced action can do: the least costs by two policies that are the same but for at most one weight.
+#![tactic(auto)]
+
 ghost use Rattle.std.specs.Prelude.{◌≡◌};
 ghost use Rattle.policy.specs.Questions.{first_no, query_questions};
 ghost use Rattle.repricing.specs.Call.{price_of, reprice_of, Pays, Reports};
@@ -7,21 +9,21 @@ use engine::Answer;
 use policy::{MOST_QUERIES, Policy, Queries, Query};
 
 // The least cost of a set that clears, or none where no set does.
-#[derive(Drop)]
+#[derive(Clone, Copy)]
 pub enum Price {
     None,
     Cost(u32),
 }
 
 // The least costs by the first policy and by the second.
-#[derive(Drop)]
+#[derive(Clone, Copy)]
 pub struct Prices {
     pub before: Price,
     pub after: Price,
 }
 
 // What reprice answers: the number of the question answered no, that the policies are not comparable, or both costs.
-#[derive(Drop)]
+#[derive(Clone, Copy)]
 pub enum Repriced {
     Refused(u8),
     NotComparable,

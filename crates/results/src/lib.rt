@@ -1,5 +1,7 @@
 // What `clear` prints for a file's bytes: the refusal, or for each query what the calls return for it. Each function that puts a
 // text into the lent buffer returns where it ends; bytes that do not fit are dropped.
+#![tactic(auto)]
+
 ghost use Rattle.std.specs.Prelude.{◌≡◌, ◌++◌, length, take};
 ghost use Rattle.engine.specs.Sets.{most_slim};
 ghost use Rattle.format.specs.Text.{ascii, decimal};
@@ -18,7 +20,7 @@ use text::Printed;
 pub const LONGEST_RESULT: usize = 80000;
 
 // What the calls return for a query: the answer, and where it is a choice the sets listed and the rules fired for the best.
-#[derive(Drop)]
+#[derive(Clone, Copy)]
 struct QueryResult {
     want: u8,
     answer: Answer,

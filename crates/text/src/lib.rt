@@ -1,5 +1,7 @@
 // Text put into a lent buffer behind its first `at` bytes. Each function returns where the text ends; bytes that do not fit
 // are dropped.
+#![tactic(auto)]
+
 ghost use Rattle.std.specs.Prelude.{◌++◌};
 ghost use Rattle.format.specs.Text.{ascii, decimal};
 ghost use Rattle.format.specs.Written.{commas, each};
@@ -7,7 +9,7 @@ ghost use Rattle.text.specs.Put.{Puts, comma, refused_text};
 
 // What a call answers that hands out texts one at a time: the length of the text that stands at the start of the buffer, or that
 // no text is left.
-#[derive(Drop)]
+#[derive(Clone, Copy)]
 pub enum Printed {
     Length(usize),
     Nothing,
@@ -48,6 +50,7 @@ pub fn line(buffer: &mut [u8], at: usize, key: &[u8], n: u32) -> usize
 }
 
 // Puts the number at place i of a list, with a comma before it unless it is the first.
+#[tactic(auto, using(crate::specs::Laws::Entries::comma_first))]
 pub fn entry(buffer: &mut [u8], at: usize, i: usize, n: u16) -> usize
     ensures { Puts buffer.old at (comma i ++ decimal n) buffer.new result }
 {

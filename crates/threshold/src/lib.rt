@@ -1,4 +1,6 @@
 // The policy whose query has the most slim sets: decision by decision, "at least j of the first i actions".
+#![tactic(auto)]
+
 ghost use Rattle.std.specs.Prelude.{◌≡◌};
 ghost use Rattle.format.specs.Entries.{zero_rule};
 ghost use Rattle.base.specs.Lists.{filled};

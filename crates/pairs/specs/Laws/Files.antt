@@ -26,7 +26,7 @@ use Rattle.reader.specs.File.{read_of}
 use Rattle.reader.specs.Claim.{AcceptedFile, query_of}
 use Rattle.reader.specs.Laws.Back.{queries_few}
 use Rattle.reader.specs.Laws.Clear.{stated_queries}
-use Rattle.reader.specs.Laws.States.{states, stated_answers, query-accepted}
+use Rattle.reader.specs.Laws.States.{states, stated_answers, query_accepted}
 use Rattle.pairs.specs.Texts.{query_text, apart_text, refusal_of, pair_texts, reprice_texts}
 use Rattle.pairs.specs.Claim.{old, new, count, FilesRepriced}
 
@@ -91,7 +91,7 @@ module _ (s s' : List ℕ) where
 
     module _ (i : ℕ) (h : i < count s s') where
       first_accepted : Accepted (old s s') (query_of r i)
-      first_accepted = query-accepted (states s ok) i h
+      first_accepted = query_accepted (states s ok) i h
 
       second_accepted : check_record_of (new s s') r.queries ≡ 0 → Accepted (new s s') (query_of r i)
       second_accepted e = ((record_means (new s s') r.queries).0 e).2 i h

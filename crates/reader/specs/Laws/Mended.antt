@@ -10,7 +10,7 @@ use Rattle.reader.specs.File.{draft_of, read_of}
 use Rattle.reader.specs.Claim.{AcceptedFile, query_of}
 use Rattle.reader.specs.Mends.{found, mended, Mends}
 use Rattle.reader.specs.Laws.Files.{draft_of_accepted}
-use Rattle.reader.specs.Laws.States.{states, stated_answers, query-accepted}
+use Rattle.reader.specs.Laws.States.{states, stated_answers, query_accepted}
 use Rattle.reader.specs.Laws.Levels.{levels_put}
 
 module _ (s : List ℕ) where
@@ -26,7 +26,7 @@ module _ (s : List ℕ) where
 
   alike : AcceptedFile s → (i : ℕ) → i < (read_of s).queries.count
       → SameAnswers (read_of s).policy (mended s).policy (query_of (read_of s) i)
-  alike ok i h = rw (draft_of_accepted s ok) (found_alike (read_of s).policy (query_of (read_of s) i) (query-accepted (states s ok) i h))
+  alike ok i h = rw (draft_of_accepted s ok) (found_alike (read_of s).policy (query_of (read_of s) i) (query_accepted (states s ok) i h))
 
 pub mends : (s : List ℕ) → Mends s
 mends s = record { read = read s; finds = finds s; alike = alike s }

@@ -16,7 +16,7 @@ use Rattle.engine.specs.Calls.{slim_sets, choose_of}
 use Rattle.engine.specs.Meaning.{Chooses}
 use Rattle.engine.specs.Claim.{Holds}
 use Rattle.engine.specs.Laws.{claim_holds}
-use Rattle.engine.specs.Laws.Means.{choose-means}
+use Rattle.engine.specs.Laws.Means.{choose_means}
 
 module _ (p : Policy) (q : Query) where
   pub record Known (c : Choice) : Type 0 where
@@ -36,7 +36,7 @@ module _ (p : Policy) (q : Query) where
       go (inr h) = omega arith
 
   pub known : (c : Choice) → choose_of p q ≡ Chosen c → Known c
-  known c e = let means : Chooses p q (Chosen c) = subst (Chooses p q) e (choose-means p q) in record {
+  known c e = let means : Chooses p q (Chosen c) = subst (Chooses p q) e (choose_means p q) in record {
     enough = means.1.enough;
     least = best_least c.mask means.1;
     cost = means.3;

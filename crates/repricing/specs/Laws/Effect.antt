@@ -20,7 +20,7 @@ use Rattle.engine.specs.Laws.{claim_holds}
 use Rattle.engine.specs.Laws.Alike.{slim_sets_alike}
 use Rattle.engine.specs.Laws.Decide.{clears_iff}
 use Rattle.engine.specs.Laws.Ignored.{ignored}
-use Rattle.engine.specs.Laws.Means.{judge_means, choose-means}
+use Rattle.engine.specs.Laws.Means.{judge_means, choose_means}
 use Rattle.repricing.specs.Reprices.{raised, Rises, Moves, SameSets, Reprices}
 use Rattle.repricing.specs.Laws.Reweighed.{also_same}
 use Rattle.repricing.specs.Laws.Costs.{cost_rises}
@@ -105,11 +105,11 @@ module _ (p p' : Policy) (agree : Agree p p') (q : Query) where
   -- Choose refuses both by the same number
   agree_accepted : Accepted p' q → Accepted p q
   unfolding Accepted
-  agree_accepted ok' = go (choose_of p q) refl (choose-means p q)
+  agree_accepted ok' = go (choose_of p q) refl (choose_means p q)
     where
       go : (x : Answer) → choose_of p q ≡ x → Chooses p q x → Accepted p q
       go (Refused n) e (first, ne) =
-          let there : Chooses p' q (Refused n) = subst (Chooses p' q) (sym same.choose ∙ e) (choose-means p' q) in
+          let there : Chooses p' q (Refused n) = subst (Chooses p' q) (sym same.choose ∙ e) (choose_means p' q) in
           absurd (ne (sym there.0 ∙ ok'))
       go None e h = h.0
       go (Chosen c) e h = h.0

@@ -14,8 +14,8 @@ use Rattle.repricing.specs.Laws.Unmoved.{with_actions}
 raised_zero : (p : Policy) (a : ℕ) → raised p a 0 ≡ p
 raised_zero p a = ap (λ (n : ℕ). reweighed p a n) (add-zero (weight_of p a)) ∙ ap (with_actions p) (own p.action a)
 
-pub raised-either : (p p' : Policy) → Comparable p p' → (a : ℕ) × (k : ℕ) × (Agree (raised p a k) p' ⊎ Agree (raised p' a k) p)
-raised-either p p' (a, w, e) = elim (dec_le (weight_of p a) w) [
+pub raised_either : (p p' : Policy) → Comparable p p' → (a : ℕ) × (k : ℕ) × (Agree (raised p a k) p' ⊎ Agree (raised p' a k) p)
+raised_either p p' (a, w, e) = elim (dec_le (weight_of p a) w) [
   | yes m ↦
       let more : w ≡ weight_of p a + (w - weight_of p a) = omega arith in
       (a, w - weight_of p a, inl (subst (λ (n : ℕ). Agree (reweighed p a n) p') more e))

@@ -12,7 +12,7 @@ use Rattle.engine.specs.declared.Answer.{Answer}
 use Rattle.engine.specs.declared.Answer.TheVariants.{Refused as choose-refused, None as choose-none, Chosen}
 use Rattle.engine.specs.Calls.{refused_or, choose_of}
 use Rattle.engine.specs.Meaning.{Chooses}
-use Rattle.engine.specs.Laws.Means.{choose-means}
+use Rattle.engine.specs.Laws.Means.{choose_means}
 use Rattle.alike.specs.Comparable.{comparable, Comparable}
 use Rattle.alike.specs.Laws.{comparable_iff}
 use Rattle.repricing.specs.declared.Repriced.{Repriced}
@@ -20,11 +20,11 @@ use Rattle.repricing.specs.declared.Repriced.TheVariants.{Refused, NotComparable
 use Rattle.repricing.specs.Reprices.{Reprices}
 use Rattle.repricing.specs.Call.{Pays, Moved, Effect, Reports, price_in, price_of, prices, reprice_of}
 use Rattle.repricing.specs.Laws.Effect.{reprices}
-use Rattle.repricing.specs.Laws.Either.{raised-either}
+use Rattle.repricing.specs.Laws.Either.{raised_either}
 
 pub price_means : (p : Policy) (q : Query) → Pays p q (price_of p q)
 unfolding price_of price_in Accepted
-price_means p q = go (choose_of p q) (choose-means p q)
+price_means p q = go (choose_of p q) (choose_means p q)
   where
     go : (x : Answer) → Chooses p q x → Pays p q (price_in x)
     go (choose-refused n) (first, ne) = λ ok. absurd (ne (sym first ∙ ok))
@@ -34,7 +34,7 @@ price_means p q = go (choose_of p q) (choose-means p q)
 -- the prices by both move as the choices do
 moved : (p p' : Policy) (q : Query) (k : ℕ) → Accepted p q → Reprices p p' q k → Moved k (price_of p q) (price_of p' q)
 unfolding price_of price_in Accepted
-moved p p' q k ok r = go (choose_of p q) refl (choose-means p q)
+moved p p' q k ok r = go (choose_of p q) refl (choose_means p q)
   where
     go : (x : Answer) → choose_of p q ≡ x → Chooses p q x → Moved k (price_in x) (price_in (choose_of p' q))
     go (choose-refused n) e (first, ne) = absurd (ne (sym first ∙ ok))
@@ -46,7 +46,7 @@ module _ (p p' : Policy) (q : Query) where
   effect ok ok' c = record {
     up = λ a k e. moved p p' q k ok (reprices p p' q a k e ok ok');
     down = λ a k e. moved p' p q k ok' (reprices p' p q a k e ok' ok);
-    either = raised-either p p' c;
+    either = raised_either p p' c;
   }
 
   abbrev tested : Bool → Repriced

@@ -58,9 +58,9 @@ world_is s = followed_same _ (alone_filled 16) 16 s 16
 there : There 16 8
 there = record { actions = lit< tt; some = lit< tt; eight = lit< tt; fits = lit< tt }
 
-enough-iff : (s : ℕ) → Enough at_least eight s ↔ ((s < 2 ^ 16) × (8 ≤ ones s))
+enough_iff : (s : ℕ) → Enough at_least eight s ↔ ((s < 2 ^ 16) × (8 ≤ ones s))
 unfolding at_least eight record_of
-enough-iff s = (
+enough_iff s = (
   λ e. (
     e.offered.set,
     omega (
@@ -80,7 +80,7 @@ enough-iff s = (
 not_more : (s : ℕ) → Slim at_least eight s → s < 2 ^ 16 → ¬ (9 ≤ ones s)
 not_more s e h more =
     let (t, sub, one) = one_fewer s (omega arith) in
-    e.least t sub (λ z. omega (arith, ap ones z)) ((enough-iff t).1 (⊆→< t s 16 sub h, omega arith))
+    e.least t sub (λ z. omega (arith, ap ones z)) ((enough_iff t).1 (⊆→< t s 16 sub h, omega arith))
 
 -- slim: exactly 8
 pub slim_eight : (s : ℕ) → Slim at_least eight s ↔ ((s < 2 ^ 16) × (ones s ≡ 8))
@@ -88,14 +88,14 @@ slim_eight s = (eight_of, back)
   where
     eight_of : Slim at_least eight s → (s < 2 ^ 16) × (ones s ≡ 8)
     eight_of e =
-        let (h, some) = (enough-iff s).0 e.enough in
+        let (h, some) = (enough_iff s).0 e.enough in
         let no_more = not_more s e h in
         (h, omega arith)
 
     back : (s < 2 ^ 16) × (ones s ≡ 8) → Slim at_least eight s
     back (h, all) = record {
-      enough = (enough-iff s).1 (h, omega arith);
-      least = λ t sub ne e. ne (same_size t s sub (omega (arith, fewer_ones t s sub, ((enough-iff t).0 e).1)));
+      enough = (enough_iff s).1 (h, omega arith);
+      least = λ t sub ne e. ne (same_size t s sub (omega (arith, fewer_ones t s sub, ((enough_iff t).0 e).1)));
     }
 
 -- so their list is that of the sets with exactly 8 actions

@@ -71,10 +71,10 @@ module _ (p : Policy) (qs : Queries) (before : List ℕ) (yes : AllYes (write_qu
   file_written = answered _ _ _ yes
 
 -- what is returned means what each case says, for a record in arrays of its structs' lengths
-pub write-means : (p : Policy) (qs : Queries) (before : List ℕ) → (AllYes (record_questions p qs) → AcceptedRecord p qs)
+pub write_means : (p : Policy) (qs : Queries) (before : List ℕ) → (AllYes (record_questions p qs) → AcceptedRecord p qs)
     → Writes p qs before (write_after p qs before) (write_of p qs (length before))
 unfolding write_of write_after refused_or
-write-means p qs before held = go (first_no (write_questions p qs (length before))) refl
+write_means p qs before held = go (first_no (write_questions p qs (length before))) refl
   where
     go : (n : ℕ) → first_no (write_questions p qs (length before)) ≡ n
         → Writes p qs before (refused_or n (λ k. before) (file_text p qs ++ drop (length (file_text p qs)) before))

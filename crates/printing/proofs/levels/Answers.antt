@@ -1,0 +1,10 @@
+-- `printing::levels` meets its contract: there is one text.
+use Rattle.printing.specs.Texts.{levels_text}
+use Rattle.printing.proofs.Handed.{hands_put, hands_none}
+use Rattle.printing.proofs.levels.Goals as goal
+
+pub returns-then-i-ne0 : goal.returns-then-i-ne0
+returns-then-i-ne0 c = hands_none (levels_text c.args.file.now) c.args.i c.args.buffer.now c.if-i-ne0.true
+
+pub returns : goal.returns
+returns c = hands_put (levels_text c.args.file.now) c.args.i c.args.buffer.now c.if-i-ne0.false c.put_levels.ensures

@@ -1,0 +1,14 @@
+-- `threshold::numbers::decisions_to` meets its contract: the decisions so far are counted.
+use Prim.Native.Nat.{◌-◌, ◌≤◌}
+use mathlib.Core.Path.{◌≡◌, refl}
+use native.Mathlib.Omega.{arith}
+use borrow.Author.Rules.{rules}
+use Rattle.threshold.specs.AtLeast.{decisions_to}
+use Rattle.threshold.proofs.Counts.{decisions_few, decisions_more}
+use Rattle.threshold.proofs.numbers.decisions_to.Given as goal
+
+abbrev pub invariant-loop-k : goal.invariant-loop-k
+invariant-loop-k l = (l.k ≤ l.i) × (l.n ≡ decisions_to l.k)
+
+abbrev pub decreases-loop-k : goal.decreases-loop-k
+decreases-loop-k l = l.i - l.k
