@@ -1,4 +1,6 @@
 // The program `levels`: reads a file from standard input whose levels may be wrong, and writes the lowest that fit its rules.
+#![tactic(auto)]
+
 ghost use Rattle.std.specs.Prelude.{◌≡◌, length};
 ghost use Rattle.printing.specs.Texts.{longest_levels, levels_texts};
 ghost use Rattle.text.specs.Handing.{text_at};

@@ -1,4 +1,6 @@
 // The program `longest`: writes the file whose query has the most slim sets.
+#![tactic(auto)]
+
 ghost use Rattle.std.specs.Prelude.{◌≡◌, length};
 ghost use Rattle.format.specs.Bounds.{longest_file};
 ghost use Rattle.text.specs.Handing.{text_at};

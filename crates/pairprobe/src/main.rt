@@ -1,11 +1,13 @@
 // The program `pairprobe`: reads two files, the first from standard input and the second from descriptor 3, and writes what the calls
 // that reprice return for their policies and the first's queries.
+#![tactic(auto)]
+
 use base::smaller;
 use format::MOST_BYTES;
-use lines::{keyed, text};
 use policy::{MOST_QUERIES, Policy, Queries};
+use query_lines::{keyed, text};
 
-mod lines;
+mod query_lines;
 mod spoilt;
 
 // Writes the lines of two policies and the queries of the first.
@@ -16,7 +18,7 @@ fn answer(before: Policy, after: Policy, queries: Queries) {
     let count = smaller(queries.count as usize, MOST_QUERIES);
     for i in 0..count {
         let one = query[i];
-        lines::of(before, after, one);
+        query_lines::of(before, after, one);
     }
     if count != 0 {
         let first = query[0];

@@ -1,5 +1,5 @@
 // The lines of policies in another order, with other entries past their counts, and spoilt so that a question is answered no.
-use crate::lines::{reprice, text};
+use crate::query_lines::{reprice, text};
 use policy::{Action, Decisions, Kind, Policy, Query, Rule};
 
 // The list of these two decisions, of which so many count; the others are past its count.

@@ -1,13 +1,15 @@
 // The program `probe`: reads a file from standard input, and writes what the engine's
 // calls and the writer return for its policy and queries.
+#![tactic(auto)]
+
 use base::smaller;
 use format::MOST_BYTES;
 use out::{keyed, text};
 use policy::{MOST_QUERIES, Policy, Queries};
 
 mod calls;
-mod lines;
 mod out;
+mod query_lines;
 mod spoilt;
 mod spoilt_queries;
 mod written;
@@ -24,7 +26,7 @@ fn answer(policy: Policy, queries: Queries) {
     let mut i = 0;
     while i < count {
         let one = query[i];
-        lines::of(policy, one);
+        query_lines::of(policy, one);
         i += 1;
     }
     if count != 0 {
@@ -41,7 +43,7 @@ fn answer_many(policy: Policy, queries: Queries) {
     let mut i = 0;
     while i < count {
         let one = query[i];
-        lines::of_many(policy, one);
+        query_lines::of_many(policy, one);
         i += 1;
     }
 }

@@ -1,8 +1,8 @@
 // The lines of spoilt queries: the queries with something changed, written with the policy.
 ghost use Rattle.std.specs.Prelude.{◌≤◌};
 
-use crate::lines::past;
 use crate::out::text;
+use crate::query_lines::past;
 use crate::spoilt::own_unless;
 use crate::written::write;
 use base::smaller;

@@ -1,5 +1,7 @@
 // The program `reprice`: reads two files, the first from standard input and the second from descriptor 3, and writes what is to be
 // printed for them, text by text.
+#![tactic(auto)]
+
 ghost use Rattle.std.specs.Prelude.{◌≡◌, length};
 ghost use Rattle.pairs.specs.Texts.{longest_prices, reprice_texts};
 ghost use Rattle.text.specs.Handing.{text_at};

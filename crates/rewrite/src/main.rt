@@ -1,4 +1,6 @@
 // The program `rewrite`: reads a file from standard input, and writes the file that the writer makes of its record.
+#![tactic(auto)]
+
 ghost use Rattle.std.specs.Prelude.{◌≡◌, length};
 ghost use Rattle.format.specs.Bounds.{longest_file};
 ghost use Rattle.text.specs.Handing.{text_at};

@@ -6,7 +6,7 @@ use Rattle.base.specs.Laws.Tests.{and_make, and_left, and_right, entry_at}
 use Rattle.base.specs.Lists.{filled}
 use Rattle.policy.specs.declared.Rule.{Rule}
 use Rattle.policy.specs.Questions.{query_in_range, queries_in_range, record_questions}
-use Rattle.policy.specs.Laws.{Answers, first_no_zero, answered_with, accepted as query-accepted}
+use Rattle.policy.specs.Laws.{Answers, first_no_zero, answered_with, accepted as query_accepted}
 use Rattle.policy.specs.Record.{no_rule, rule_of, Eights, Sized}
 use Rattle.engine.specs.Meaning.{AllYes}
 use Rattle.format.specs.Bounds.{longest_file}
@@ -56,7 +56,7 @@ given known = and_make (query_in_range at_least eight) true known.given tt
 
 answers : AllYes (record_questions at_least stated.queries)
 answers =
-    let known = query-accepted at_least eight accepted in
+    let known = query_accepted at_least eight accepted in
     first_no_zero (record_questions at_least stated.queries)
     (answered_with known (queries_in_range at_least stated.queries) (given known))
 
