@@ -20,10 +20,12 @@ COMMENT = re.compile(r'"(?:[^"\\\n]|\\.)*"|(?<![^\s(){}.;,@"])--[^\n]*')
 RUST = re.compile(r"""b?"(?:\\.|[^"\\])*"|b?'(?:\\.|[^'\\\n])'|//[^\n]*""")
 USE = re.compile(r"\buse ((?:\w|[.·'])+)\.\{([^}]*)\}")
 SPAN = re.compile(r"`[^`\n]+`")
+# where the names of libraries come from; any other path leads into the repository
+LIBRARIES = re.compile(r"Rattle\.(std|core|io|os|libc)\b|Prim\b|[a-z]")
 # words of the library in the names of lemmas, by their spelling there
 LIBRARY = {"getD": "get_or"}
 # a lemma that is in snake case and has its definition's name
-LEMMAS = {"all_yes"}
+LEMMAS = {"all_yes": "allYes"}
 # a field that no file names beside the definition of its name
 APART = {"at_level"}
 KEEP = re.compile(r"returns(-|$)|.*-requires(-|$)|(invariant|decreases|loop)-")
@@ -56,7 +58,8 @@ def snake(name):
 
 def of_a_function(path):
     """A proof of a function of src/: what it declares are goals, under names that Rattle makes."""
-    return os.path.basename(path) == "Proof.antt"
+    folder, name = os.path.split(path)
+    return name == "Proof.antt" or (name in ("Answers.antt", "Invariants.antt") and os.path.basename(folder) != "proofs")
 
 
 def table(root):
@@ -64,7 +67,7 @@ def table(root):
     for path in files(os.path.join(root, "crates"), (".antt", ".rt")):
         text = read(path)
         for module, names in USE.findall(bare(text)):
-            if not module.startswith("Rattle.") or re.match(r"Rattle\.(std|core|io|os|libc)\b", module):
+            if LIBRARIES.match(module):
                 for name in names.split(","):
                     imported.setdefault(name.split(" as ")[0].strip(), path)
         if path.endswith(".antt"):
@@ -85,8 +88,9 @@ def table(root):
     for old, new in rows.items():
         if new in taken and "-" in old:
             rows[old] = new + "_lem"
-    for name in [name for name in declared if name in LEMMAS]:
-        rows[name] = name + "_lem"
+    for name, definition in LEMMAS.items():
+        if name in declared and definition in declared:
+            rows[name] = name + "_lem"
     news = {}
     for old, new in rows.items():
         news.setdefault(new, []).append(old)
