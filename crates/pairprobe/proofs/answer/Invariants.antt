@@ -1,7 +1,5 @@
 -- `answer` is safe and ends.
 use Prim.Native.Nat.{◌-◌}
-use native.Mathlib.Omega.{arith}
-use borrow.Author.Rules.{rules}
 use Rattle.pairprobe.proofs.answer.Given as goal
 
 abbrev pub invariant-loop-i : goal.invariant-loop-i

@@ -1,5 +1,4 @@
 -- `apart` meets its contract.
-use borrow.Author.Rules.{rules}
 use Rattle.text.specs.Laws.Handed.{only_put, only_once}
 use Rattle.pairs.specs.Texts.{apart_text}
 use Rattle.pairs.proofs.apart.Goals as goal

@@ -1,7 +1,6 @@
 -- `put_price` meets its contract.
 use mathlib.Core.List.{◌++◌}
 use mathlib.Core.Path.{sym, ap}
-use borrow.Author.Rules.{rules}
 use Rattle.format.specs.Text.{ascii}
 use Rattle.repricing.specs.declared.Price.{Price}
 use Rattle.text.specs.Laws.Putting.{both, same_text}

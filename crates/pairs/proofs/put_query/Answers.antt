@@ -1,6 +1,5 @@
 -- `put_query` meets its contract.
 use mathlib.Core.Path.{ap₂}
-use borrow.Author.Rules.{rules}
 use Rattle.repricing.specs.declared.Price.{Price}
 use Rattle.format.specs.Written.{line_of}
 use Rattle.text.specs.Laws.Putting.{both, same_text}

@@ -1,6 +1,5 @@
 -- `refusal` meets its contract.
 use mathlib.Core.Path.{sym, ◌∙◌}
-use borrow.Author.Rules.{rules}
 use Rattle.engine.specs.Laws.Refusals.{answered, refused}
 use Rattle.pairs.specs.Texts.{refusal_of}
 use Rattle.pairs.proofs.refusal.Goals as goal

@@ -1,5 +1,4 @@
 -- `refused` meets its contract.
-use borrow.Author.Rules.{rules}
 use Rattle.text.specs.Laws.Handed.{only_put, only_once}
 use Rattle.pairs.proofs.refused.Goals as goal
 

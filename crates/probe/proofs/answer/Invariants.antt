@@ -1,7 +1,5 @@
 -- `probe::answer` is safe and ends.
 use Prim.Native.Nat.{◌-◌}
-use native.Mathlib.Omega.{arith}
-use borrow.Author.Rules.{rules}
 use Rattle.probe.proofs.answer.Given as goal
 
 abbrev pub invariant-loop-i : goal.invariant-loop-i

@@ -1,7 +1,5 @@
 -- `probe::answer_many` is safe and ends.
-use Prim.Native.Nat.{◌-◌}
 use native.Mathlib.Omega.{arith}
-use borrow.Author.Rules.{rules}
 use Rattle.probe.proofs.answer_many.Goals as goal
 
 pub loop-i-init : goal.loop-i-init

@@ -1,7 +1,5 @@
 -- `probe::answer_many` is safe and ends.
 use Prim.Native.Nat.{◌-◌}
-use native.Mathlib.Omega.{arith}
-use borrow.Author.Rules.{rules}
 use Rattle.probe.proofs.answer_many.Given as goal
 
 abbrev pub invariant-loop-i : goal.invariant-loop-i

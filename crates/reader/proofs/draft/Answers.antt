@@ -3,7 +3,6 @@ use Prim.Native.Nat.{◌<◌}
 use mathlib.Core.Path.{refl}
 use native.Mathlib.Omega.{arith}
 use borrow.Author.Tests.{le-leb, lt-leb}
-use borrow.Author.Rules.{rules}
 use lib.ListN.{length}
 use Rattle.format.specs.Bounds.{most_bytes}
 use Rattle.lines.proofs.Steps.{stays, next, asked, denied}

@@ -1,6 +1,5 @@
 -- `reader::read` meets its contract.
 use mathlib.Core.Path.{◌∙◌}
-use borrow.Author.Rules.{rules}
 use Rattle.reader.proofs.Handed.{read_means, draft_refuses, check_refuses, check_passes}
 use Rattle.reader.proofs.read.Goals as goal
 

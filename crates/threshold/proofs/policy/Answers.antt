@@ -1,7 +1,6 @@
 -- `threshold::policy` meets its contract.
 use mathlib.Core.List.{List}
 use mathlib.Core.Path.{ap₂, ◌∙◌}
-use borrow.Author.Rules.{rules}
 use lib.ListN.{replicate}
 use Rattle.base.specs.Lists.{filled}
 use Rattle.policy.specs.declared.Rule.{Rule}

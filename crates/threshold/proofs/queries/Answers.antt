@@ -2,7 +2,6 @@
 use Prim.Native.Nat.{ℕ}
 use mathlib.Core.List.{◌∷◌}
 use mathlib.Core.Path.{ap}
-use borrow.Author.Rules.{rules}
 use lib.ListN.{replicate}
 use Rattle.base.specs.Lists.{filled}
 use Rattle.policy.specs.declared.Queries.{Queries}

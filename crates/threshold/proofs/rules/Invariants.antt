@@ -1,14 +1,7 @@
 -- `threshold::rules` meets its contract: the rules of the decisions so far are in the array.
 use Prim.Native.Nat.{◌-◌, ◌≤◌}
-use mathlib.Core.List.{◌++◌}
-use mathlib.Core.Logic.{⊎_elim}
-use mathlib.Core.Path.{◌≡◌}
-use native.Mathlib.Omega.{arith}
-use borrow.Author.Rules.{rules}
-use Rattle.threshold.specs.AtLeast.{There, first_for, rows}
-use Rattle.threshold.proofs.Counts.{there}
-use Rattle.threshold.proofs.Filling.{Filling, before, room, second_room, none_yet, row_starts, first_put, first_none, second_put}
-use Rattle.threshold.proofs.Filling.{row_ends}
+use Rattle.threshold.specs.AtLeast.{rows}
+use Rattle.threshold.proofs.Filling.{Filling, before}
 use Rattle.threshold.proofs.rules.Given as goal
 
 abbrev pub invariant-loop-j : goal.invariant-loop-j

@@ -1,7 +1,5 @@
 -- `spoilt::lines` is safe and ends.
 use Prim.Native.Nat.{◌-◌}
-use native.Mathlib.Omega.{arith}
-use borrow.Author.Rules.{rules}
 use Rattle.pairprobe.proofs.spoilt.lines.Given as goal
 
 abbrev pub invariant-loop-k : goal.invariant-loop-k

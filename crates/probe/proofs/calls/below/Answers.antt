@@ -1,7 +1,5 @@
 -- `probe::calls::below` is safe and ends.
-use Prim.Native.Nat.{◌-◌}
 use native.Mathlib.Omega.{arith}
-use borrow.Author.Rules.{rules}
 use Rattle.probe.proofs.calls.below.Goals as goal
 
 pub loop-i-init : goal.loop-i-init

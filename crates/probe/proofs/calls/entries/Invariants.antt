@@ -1,7 +1,5 @@
 -- `probe::calls::entries` is safe and ends.
 use Prim.Native.Nat.{◌-◌}
-use native.Mathlib.Omega.{arith}
-use borrow.Author.Rules.{rules}
 use lib.ListN.{length}
 use Rattle.probe.proofs.calls.entries.Given as goal
 

@@ -1,9 +1,9 @@
 -- `probe::calls::filled` meets its contract: the next number is 50000 + i.
-use Prim.Native.Nat.{ℕ, ◌+◌, ◌-◌}
-use mathlib.Core.Path.{◌≡◌, sym}
+use Prim.Native.Nat.{ℕ}
+use mathlib.Core.Path.{sym}
 use native.Mathlib.Omega.{arith}
 use borrow.Author.Rules.{rules}
-use lib.ListN.{length, length-replicate}
+use lib.ListN.{length-replicate}
 use Rattle.engine.specs.Sets.{most_slim}
 use Rattle.probe.proofs.calls.filled.Goals as goal
 

@@ -1,9 +1,7 @@
 -- `probe::calls::filled` meets its contract: the next number is 50000 + i.
-use Prim.Native.Nat.{ℕ, ◌+◌, ◌-◌}
-use mathlib.Core.Path.{◌≡◌, sym}
-use native.Mathlib.Omega.{arith}
-use borrow.Author.Rules.{rules}
-use lib.ListN.{length, length-replicate}
+use Prim.Native.Nat.{◌+◌, ◌-◌}
+use mathlib.Core.Path.{◌≡◌}
+use lib.ListN.{length}
 use Rattle.engine.specs.Sets.{most_slim}
 use Rattle.probe.proofs.calls.filled.Given as goal
 

@@ -1,7 +1,6 @@
 -- `probe::calls::list` is safe and ends: the part that is lent has as many places as asked.
 use mathlib.Core.Path.{sym}
 use native.Mathlib.Omega.{arith}
-use borrow.Author.Rules.{rules}
 use lib.Seq.{length-take-le}
 use Rattle.probe.proofs.calls.list.Goals as goal
 

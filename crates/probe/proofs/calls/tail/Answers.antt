@@ -1,7 +1,5 @@
 -- `probe::calls::tail` is safe and ends: at most one entry is counted in each turn.
-use Prim.Native.Nat.{◌-◌, ◌≤◌}
 use native.Mathlib.Omega.{arith}
-use borrow.Author.Rules.{rules}
 use Rattle.probe.proofs.calls.tail.Goals as goal
 
 pub loop-i-init : goal.loop-i-init

@@ -1,8 +1,5 @@
 -- `probe::calls::tail` is safe and ends: at most one entry is counted in each turn.
 use Prim.Native.Nat.{◌-◌, ◌≤◌}
-use mathlib.Core.Logic.{⊎_elim}
-use native.Mathlib.Omega.{arith}
-use borrow.Author.Rules.{rules}
 use Rattle.probe.proofs.calls.tail.Given as goal
 
 abbrev pub invariant-loop-i : goal.invariant-loop-i

@@ -1,7 +1,5 @@
 -- `probe::calls::words_below` is safe and ends.
-use Prim.Native.Nat.{◌-◌}
 use native.Mathlib.Omega.{arith}
-use borrow.Author.Rules.{rules}
 use Rattle.probe.proofs.calls.words_below.Goals as goal
 
 pub loop-d-init : goal.loop-d-init

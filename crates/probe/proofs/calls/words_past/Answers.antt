@@ -1,7 +1,5 @@
 -- `probe::calls::words_past` is safe and ends: at most one word is counted in each turn.
-use Prim.Native.Nat.{◌-◌, ◌≤◌}
 use native.Mathlib.Omega.{arith}
-use borrow.Author.Rules.{rules}
 use Rattle.probe.proofs.calls.words_past.Goals as goal
 
 pub loop-d-init : goal.loop-d-init

@@ -1,8 +1,5 @@
 -- `probe::calls::words_past` is safe and ends: at most one word is counted in each turn.
 use Prim.Native.Nat.{◌-◌, ◌≤◌}
-use mathlib.Core.Logic.{⊎_elim}
-use native.Mathlib.Omega.{arith}
-use borrow.Author.Rules.{rules}
 use Rattle.probe.proofs.calls.words_past.Given as goal
 
 abbrev pub invariant-loop-d : goal.invariant-loop-d

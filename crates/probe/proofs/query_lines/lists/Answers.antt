@@ -1,7 +1,5 @@
 -- `probe::lines::lists` is safe and ends.
-use Prim.Native.Nat.{◌-◌}
 use native.Mathlib.Omega.{arith}
-use borrow.Author.Rules.{rules}
 use Rattle.probe.proofs.query_lines.lists.Goals as goal
 
 pub overflow_add-slim : goal.overflow_add-slim

@@ -1,7 +1,5 @@
 -- `probe::lines::lists` is safe and ends.
 use Prim.Native.Nat.{◌-◌}
-use native.Mathlib.Omega.{arith}
-use borrow.Author.Rules.{rules}
 use Rattle.probe.proofs.query_lines.lists.Given as goal
 
 abbrev pub invariant-loop-n : goal.invariant-loop-n

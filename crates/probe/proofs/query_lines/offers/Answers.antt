@@ -1,7 +1,5 @@
 -- `probe::lines::offers` is safe and ends.
-use Prim.Native.Nat.{◌-◌}
 use native.Mathlib.Omega.{arith}
-use borrow.Author.Rules.{rules}
 use Rattle.probe.proofs.query_lines.offers.Goals as goal
 
 pub loop-s-init : goal.loop-s-init

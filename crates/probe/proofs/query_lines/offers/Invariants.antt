@@ -1,7 +1,5 @@
 -- `probe::lines::offers` is safe and ends.
 use Prim.Native.Nat.{◌-◌}
-use native.Mathlib.Omega.{arith}
-use borrow.Author.Rules.{rules}
 use Rattle.probe.proofs.query_lines.offers.Given as goal
 
 abbrev pub invariant-loop-s : goal.invariant-loop-s

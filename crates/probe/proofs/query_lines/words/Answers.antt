@@ -1,7 +1,5 @@
 -- `probe::lines::words` is safe and ends.
-use Prim.Native.Nat.{◌-◌}
 use native.Mathlib.Omega.{arith}
-use borrow.Author.Rules.{rules}
 use Rattle.probe.proofs.query_lines.words.Goals as goal
 
 pub loop-w-init : goal.loop-w-init

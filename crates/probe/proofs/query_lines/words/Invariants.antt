@@ -1,7 +1,5 @@
 -- `probe::lines::words` is safe and ends.
 use Prim.Native.Nat.{◌-◌}
-use native.Mathlib.Omega.{arith}
-use borrow.Author.Rules.{rules}
 use Rattle.probe.proofs.query_lines.words.Given as goal
 
 abbrev pub invariant-loop-w : goal.invariant-loop-w

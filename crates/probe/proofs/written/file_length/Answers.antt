@@ -1,5 +1,4 @@
 -- `probe::written::file_length` meets its contract.
-use borrow.Author.Rules.{rules}
 use lib.ListN.{replicate}
 use Rattle.format.specs.Bounds.{longest_file}
 use Rattle.probe.proofs.Lengths.{bounds}

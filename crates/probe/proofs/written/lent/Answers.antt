@@ -1,8 +1,5 @@
 -- `probe::written::lent` is safe and ends: a file's length is at most that of the buffer.
-use mathlib.Core.Path.{sym}
 use native.Mathlib.Omega.{arith}
-use borrow.Author.Rules.{rules}
-use lib.Seq.{length-take-le}
 use Rattle.probe.proofs.Lengths.{bounds}
 use Rattle.probe.proofs.written.lent.Goals as goal
 

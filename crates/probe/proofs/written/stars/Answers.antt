@@ -1,8 +1,5 @@
 -- `probe::written::stars` is safe and ends: at most one byte is counted in each turn.
-use Prim.Native.Nat.{◌-◌, ◌≤◌}
 use native.Mathlib.Omega.{arith}
-use borrow.Author.Rules.{rules}
-use lib.ListN.{length}
 use Rattle.probe.proofs.written.stars.Goals.{then-buffer-i-eq42, else-buffer-i-eq42}
 use Rattle.probe.proofs.written.stars.Goals as goal
 

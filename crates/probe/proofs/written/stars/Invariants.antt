@@ -1,8 +1,5 @@
 -- `probe::written::stars` is safe and ends: at most one byte is counted in each turn.
 use Prim.Native.Nat.{◌-◌, ◌≤◌}
-use mathlib.Core.Logic.{⊎_elim}
-use native.Mathlib.Omega.{arith}
-use borrow.Author.Rules.{rules}
 use lib.ListN.{length}
 use Rattle.probe.proofs.written.stars.Given as goal
 

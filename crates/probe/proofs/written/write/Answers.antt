@@ -1,7 +1,6 @@
 -- `probe::written::write` is safe and ends: the part that is lent has as many bytes as asked.
 use mathlib.Core.Path.{sym}
 use native.Mathlib.Omega.{arith}
-use borrow.Author.Rules.{rules}
 use lib.ListN.{length-take}
 use lib.Seq.{length-take-le}
 use Rattle.probe.proofs.written.write.Goals as goal

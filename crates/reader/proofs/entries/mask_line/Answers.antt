@@ -1,6 +1,5 @@
 -- `entries::mask_line` meets its contract: 1 shifted by m, less 1, is the highest mask.
 use native.Mathlib.Omega.{arith}
-use borrow.Author.Rules.{rules}
 use lib.Pow.{pow_pos, pow_mono}
 use Rattle.mask.proofs.Bits.{worth}
 use Rattle.reader.proofs.entries.mask_line.Goals as goal

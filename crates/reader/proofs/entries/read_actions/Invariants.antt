@@ -1,14 +1,8 @@
 -- `entries::read_actions` meets its contract: the array has what the turns so far read.
 use Prim.Native.Nat.{◌-◌, ◌≤◌}
-use mathlib.Core.Path.{refl, ap}
-use native.Mathlib.Omega.{arith}
-use borrow.Author.Rules.{rules}
-use lib.ListN.{replicate}
-use Rattle.base.specs.Lists.{filled}
 use Rattle.policy.specs.Record.{no_action}
 use Rattle.format.specs.Entries.{action}
 use Rattle.lines.specs.Places.{ParsedTimes}
-use Rattle.lines.proofs.Steps.{next, ends, begins, turns, all_turns}
 use Rattle.reader.proofs.entries.read_actions.Given as goal
 
 abbrev pub invariant-loop-i : goal.invariant-loop-i

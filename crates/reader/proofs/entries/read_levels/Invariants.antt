@@ -1,13 +1,8 @@
 -- `entries::read_levels` meets its contract: the array has what the turns so far read.
 use Prim.Native.Nat.{◌-◌, ◌≤◌}
-use mathlib.Core.Path.{refl}
-use native.Mathlib.Omega.{arith}
-use borrow.Author.Rules.{rules}
-use Rattle.base.specs.Lists.{filled}
 use Rattle.format.specs.Text.{ascii}
 use Rattle.format.specs.Format.{number_line}
 use Rattle.lines.specs.Places.{ParsedTimes}
-use Rattle.lines.proofs.Steps.{begins, turns, all_turns}
 use Rattle.reader.proofs.entries.read_levels.Given as goal
 
 abbrev pub invariant-loop-i : goal.invariant-loop-i

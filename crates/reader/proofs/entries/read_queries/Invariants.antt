@@ -1,12 +1,7 @@
 -- `entries::read_queries` meets its contract: the array has what the turns so far read.
 use Prim.Native.Nat.{◌-◌, ◌≤◌}
-use mathlib.Core.Path.{refl}
-use native.Mathlib.Omega.{arith}
-use borrow.Author.Rules.{rules}
-use Rattle.base.specs.Lists.{filled}
 use Rattle.format.specs.Entries.{zero_query, query}
 use Rattle.lines.specs.Places.{ParsedTimes}
-use Rattle.lines.proofs.Steps.{next, ends, begins, turns, all_turns}
 use Rattle.reader.proofs.entries.read_queries.Given as goal
 
 abbrev pub invariant-loop-i : goal.invariant-loop-i

@@ -1,13 +1,7 @@
 -- `entries::read_rules` meets its contract: the array has what the turns so far read.
-use Prim.Native.Nat.{◌-◌, ◌≤◌, ◌<◌}
-use mathlib.Core.Path.{refl, ap}
-use native.Mathlib.Omega.{arith}
-use borrow.Author.Rules.{rules}
-use lib.ListN.{replicate}
-use Rattle.base.specs.Lists.{filled}
+use Prim.Native.Nat.{◌-◌, ◌≤◌}
 use Rattle.format.specs.Entries.{zero_rule, rule}
 use Rattle.lines.specs.Places.{ParsedTimes}
-use Rattle.lines.proofs.Steps.{next, ends, begins, turns, all_turns}
 use Rattle.reader.proofs.entries.read_rules.Given as goal
 
 abbrev pub invariant-loop-i : goal.invariant-loop-i

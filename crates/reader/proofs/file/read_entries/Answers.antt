@@ -1,6 +1,5 @@
 -- `reader::file::read_entries` meets its contract.
 use mathlib.Core.Path.{sym}
-use borrow.Author.Rules.{rules}
 use Rattle.format.specs.Entries.{record_of, entries}
 use Rattle.lines.proofs.Steps.{next, ends}
 use Rattle.reader.proofs.file.read_entries.Goals as goal

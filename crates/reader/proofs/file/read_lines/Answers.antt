@@ -1,6 +1,5 @@
 -- `reader::file::read_lines` meets its contract.
 use mathlib.Core.Path.{sym}
-use borrow.Author.Rules.{rules}
 use Rattle.lines.proofs.Steps.{next, ends}
 use Rattle.reader.specs.File.{reading_of, lines}
 use Rattle.reader.proofs.file.read_lines.Goals as goal

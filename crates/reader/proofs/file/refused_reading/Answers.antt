@@ -1,5 +1,4 @@
 -- `reader::file::refused_reading` meets its contract.
-use borrow.Author.Rules.{rules}
 use lib.ListN.{replicate}
 use Rattle.base.specs.Lists.{filled}
 use Rattle.format.specs.Entries.{record_of}

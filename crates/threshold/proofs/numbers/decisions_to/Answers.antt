@@ -1,8 +1,6 @@
 -- `threshold::numbers::decisions_to` meets its contract: the decisions so far are counted.
-use Prim.Native.Nat.{◌-◌, ◌≤◌}
 use mathlib.Core.Path.{◌≡◌, refl}
 use native.Mathlib.Omega.{arith}
-use borrow.Author.Rules.{rules}
 use Rattle.threshold.specs.AtLeast.{decisions_to}
 use Rattle.threshold.proofs.Counts.{decisions_few, decisions_more}
 use Rattle.threshold.proofs.numbers.decisions_to.Goals as goal

@@ -1,10 +1,7 @@
 -- `threshold::numbers::decisions_to` meets its contract: the decisions so far are counted.
 use Prim.Native.Nat.{◌-◌, ◌≤◌}
-use mathlib.Core.Path.{◌≡◌, refl}
-use native.Mathlib.Omega.{arith}
-use borrow.Author.Rules.{rules}
+use mathlib.Core.Path.{◌≡◌}
 use Rattle.threshold.specs.AtLeast.{decisions_to}
-use Rattle.threshold.proofs.Counts.{decisions_few, decisions_more}
 use Rattle.threshold.proofs.numbers.decisions_to.Given as goal
 
 abbrev pub invariant-loop-k : goal.invariant-loop-k

@@ -2,7 +2,6 @@
 use Prim.Native.Nat.{ℕ, ◌+◌, ◌-◌}
 use mathlib.Core.Path.{ap}
 use native.Mathlib.Omega.{arith}
-use borrow.Author.Rules.{rules}
 use Rattle.threshold.specs.AtLeast.{number}
 use Rattle.threshold.proofs.Counts.{decisions_few}
 use Rattle.threshold.proofs.numbers.number.Goals as goal

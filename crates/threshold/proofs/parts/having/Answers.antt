@@ -1,7 +1,6 @@
 -- `threshold::parts::having` meets its contract.
 use Prim.Native.Nat.{◌-◌}
 use native.Mathlib.Omega.{arith}
-use borrow.Author.Rules.{rules}
 use Rattle.mask.proofs.Bits.{worth}
 use Rattle.threshold.specs.AtLeast.{having}
 use Rattle.threshold.proofs.Made.{made}

@@ -2,7 +2,6 @@
 use Prim.Native.Nat.{ℕ}
 use mathlib.Core.List.{[], ◌∷◌}
 use mathlib.Core.Path.{refl, ap, ◌∙◌}
-use borrow.Author.Rules.{rules}
 use Rattle.format.specs.Format.{decisions_of}
 use Rattle.threshold.specs.AtLeast.{without}
 use Rattle.threshold.proofs.Made.{made}
