@@ -1,4 +1,2 @@
--- Laws that the proofs of loops cite.
-pub mod Told
-pub mod Pairing
-pub mod Changing
+-- What the proofs of the tests cite.
+pub mod Tested

@@ -6,7 +6,8 @@ use Rattle.std.proofs.Common.{sym, ap, ◌∙◌}
 use Rattle.base.specs.Laws.Tests.{and_make, parts}
 use Rattle.policy.specs.declared.Policy.{Policy}
 use Rattle.policy.specs.Record.{levels_of, actions_of, rules_of, cut_rule}
-use Rattle.alike.specs.Comparable.{reweighed_in, Comparable, Counts, same_rule, same_counts, comparable}
+use Rattle.policy.specs.Same.{same_rule}
+use Rattle.alike.specs.Comparable.{reweighed_in, Comparable, Counts, same_counts, comparable}
 use Paired.{equal_iff, numbers_iff, rule_iff, paired_iff}
 use Reweighed.{front, actions_iff}
 

@@ -1,60 +1,52 @@
 // Whether two lists of actions are the same but for at most one weight.
-ghost use Rattle.std.specs.Prelude.{take, true, ◌↔◌, ◌≡◌};
-ghost use Rattle.alike.specs.Comparable.{weighing, OneWeight};
+ghost use Rattle.std.specs.Prelude.{◌≡◌};
+ghost use Rattle.std.specs.List.{list_all, zip};
+ghost use Rattle.std.specs.Cmp.Lexicographic.{pointwise};
+ghost use Rattle.alike.specs.Comparable.{changes, same_actions, same_but_weight};
 
-use base::smaller;
-use policy::{Action, Kind, MOST_ACTIONS};
-
-// Whether two kinds are the same.
-fn same_kind(one: Kind, other: Kind) -> bool
-    ensures { (result ≡ true) ↔ (one ≡ other) }
-{
-    match one {
-        Kind::Provision => match other {
-            Kind::Provision => true,
-            Kind::Obligation => false,
-        },
-        Kind::Obligation => match other {
-            Kind::Provision => false,
-            Kind::Obligation => true,
-        },
-    }
-}
+use policy::Action;
 
 // Whether two actions are the same but for their weights.
-fn same_but_weight(one: Action, other: Action) -> bool
-    ensures { (result ≡ true) ↔ (weighing one other.weight ≡ other) }
+#[tactic(auto, unfolding(crate::specs::Comparable::same_but_weight))]
+fn same_but_weight(one: &Action, other: &Action) -> bool
+    ensures { result ≡ same_but_weight one.now other.now }
 {
-    let first = one.kind;
-    let second = other.kind;
-    if !same_kind(first, second) {
-        return false;
-    }
-    one.also == other.also
+    one.kind == other.kind && one.also == other.also
+}
+
+// Whether each pair of actions is so.
+fn pairs_but_weight(first: &[Action], second: &[Action]) -> bool
+    ensures { result ≡ list_all (λ p. same_but_weight p.0 p.1) (zip first.now second.now) }
+{
+    first
+        .iter()
+        .zip(second)
+        .all(|(one, other)| same_but_weight(one, other))
+}
+
+// Whether there are as many actions, and each pair is so.
+#[tactic(auto, using(crate::proofs::Tested::by_pairs, crate::proofs::Tested::unlike))]
+fn each_but_weight(first: &[Action], second: &[Action]) -> bool
+    ensures { result ≡ pointwise same_but_weight first.now second.now }
+{
+    first.len() == second.len() && pairs_but_weight(first, second)
+}
+
+// How many weights differ, place by place.
+fn changes(first: &[Action], second: &[Action]) -> usize
+    ensures { result ≡ changes first.now second.now }
+{
+    first
+        .iter()
+        .zip(second)
+        .filter(|(one, other)| one.weight != other.weight)
+        .count()
 }
 
 // Whether the actions below the count are the same but for at most one weight.
-pub(crate) fn same(
-    first: [Action; MOST_ACTIONS],
-    second: [Action; MOST_ACTIONS],
-    actions: u8,
-) -> bool
-    ensures { (result ≡ true) ↔ OneWeight (take actions first) (take actions second) }
+#[tactic(auto, unfolding(crate::specs::Comparable::same_actions))]
+pub(crate) fn same(first: &[Action], second: &[Action]) -> bool
+    ensures { result ≡ same_actions first.now second.now }
 {
-    let count = smaller(actions as usize, MOST_ACTIONS);
-    let mut changed = false;
-    for a in 0..count {
-        let one = first[a];
-        let other = second[a];
-        if !same_but_weight(one, other) {
-            return false;
-        }
-        if one.weight != other.weight {
-            if changed {
-                return false;
-            }
-            changed = true;
-        }
-    }
-    true
+    each_but_weight(first, second) && changes(first, second) <= 1
 }

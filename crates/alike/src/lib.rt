@@ -1,70 +1,63 @@
 // Whether two policies can be compared: they are the same below their counts but for at most one weight.
 #![tactic(auto)]
 
-ghost use Rattle.std.specs.Prelude.{T, true, map, ◌↔◌, ◌≡◌};
-ghost use Rattle.policy.specs.Record.{levels_of, rules_of, cut_rule};
-ghost use Rattle.alike.specs.Comparable.{Counts, comparable, Comparable};
+ghost use Rattle.std.specs.Prelude.{T, eqb, ◌↔◌, ◌≡◌};
+ghost use Rattle.std.specs.Cmp.Lexicographic.{pointwise};
+ghost use Rattle.policy.specs.Record.{actions_of, levels_of, rules_of};
+ghost use Rattle.policy.specs.Same.{same_rule};
+ghost use Rattle.alike.specs.Comparable.{comparable, same_actions, same_counts, Comparable};
 
-use base::smaller;
-use policy::{MOST_DECISIONS, MOST_RULES, Policy};
+use policy::Policy;
 
 mod actions;
-mod rules;
 
 // Whether the counts are the same.
-fn same_counts(before: Policy, after: Policy) -> bool
-    ensures { (result ≡ true) ↔ Counts before after }
+#[tactic(auto, unfolding(crate::specs::Comparable::same_counts))]
+fn same_counts(before: &Policy, after: &Policy) -> bool
+    ensures { result ≡ same_counts before.now after.now }
 {
-    if before.decisions != after.decisions {
-        return false;
-    }
-    if before.actions != after.actions {
-        return false;
-    }
-    before.rules == after.rules
+    before.decisions == after.decisions
+        && before.actions == after.actions
+        && before.rules == after.rules
 }
 
-// Whether the levels are the same, where the counts are.
-fn same_levels(before: Policy, after: Policy) -> bool
-    requires { before.decisions ≡ after.decisions }
-    ensures { (result ≡ true) ↔ (levels_of before ≡ levels_of after) }
+// Whether the levels are the same.
+fn same_levels(before: &Policy, after: &Policy) -> bool
+    ensures { result ≡ pointwise eqb (levels_of before.now) (levels_of after.now) }
 {
-    let count = smaller(before.decisions as usize, MOST_DECISIONS);
-    let first = before.level;
-    let second = after.level;
-    rules::same_entries(&first[..count], &second[..count])
+    before.levels() == after.levels()
 }
 
-// Whether the rules are the same, where the counts are.
-fn same_rules(before: Policy, after: Policy) -> bool
-    requires { before.rules ≡ after.rules }
-    ensures { (result ≡ true) ↔ (map cut_rule (rules_of before) ≡ map cut_rule (rules_of after)) }
+// Whether the rules are the same.
+fn same_rules(before: &Policy, after: &Policy) -> bool
+    ensures { result ≡ pointwise same_rule (rules_of before.now) (rules_of after.now) }
 {
-    let count = smaller(before.rules as usize, MOST_RULES);
-    let mut k = 0;
-    while k < count {
-        let first = before.rule[k];
-        let second = after.rule[k];
-        if !rules::same(first, second) {
-            return false;
-        }
-        k += 1;
-    }
-    true
+    before.rules() == after.rules()
+}
+
+// Whether the actions are the same but for at most one weight.
+fn same_actions(before: &Policy, after: &Policy) -> bool
+    ensures { result ≡ same_actions (actions_of before.now) (actions_of after.now) }
+{
+    actions::same(before.actions(), after.actions())
+}
+
+// Whether the policies are the same but for at most one weight.
+#[tactic(auto, unfolding(crate::specs::Comparable::comparable))]
+fn same_but_one(before: &Policy, after: &Policy) -> bool
+    ensures { result ≡ comparable before.now after.now }
+{
+    same_counts(before, after)
+        && same_levels(before, after)
+        && same_rules(before, after)
+        && same_actions(before, after)
 }
 
 // Whether they can be compared.
+#[tactic(auto, using(crate::proofs::Tested::decides))]
 pub fn comparable(before: Policy, after: Policy) -> bool
     ensures value { result ≡ comparable before after }
     ensures variant { T result ↔ Comparable before after }
 {
-    let first = before.action;
-    let second = after.action;
-    if !same_counts(before, after) {
-        return false;
-    }
-    if !same_levels(before, after) {
-        return false;
-    }
-    same_rules(before, after) && actions::same(first, second, before.actions)
+    same_but_one(&before, &after)
 }

@@ -6,7 +6,7 @@ ghost use Rattle.std.specs.Prelude.{◌≡◌, ◌^◌, ◌≤◌, ◌<◌};
 ghost use Rattle.covers.specs.Covers.{word_count, moved, closed_of, less_of, low_of, covered_of, slim_of};
 ghost use Rattle.policy.specs.Record.{most_actions};
 
-use columns::WORDS;
+use columns::{WORDS, WordNumber};
 
 // Adds action a, one of the lowest six, to each marked set that lacks it.
 fn added(marks: u64, a: usize) -> u64
@@ -14,41 +14,42 @@ fn added(marks: u64, a: usize) -> u64
     ensures { result ≡ moved marks a }
 {
     let lacking = marks ^ (marks & columns::LOW[a]);
-    lacking << (1usize << a)
+    lacking << (1u32 << a)
 }
 
 // Those of the 64 sets that have a marked subset among them.
+#[tactic(auto, unfolding(crate::specs::Covers::closed_of))]
 pub fn closed(marks: u64) -> u64
     ensures { result ≡ closed_of marks 6 }
 {
     let mut all = marks;
-    for a in 0..6usize {
-        all = all | added(all, a);
+    for a in 0..6 {
+        all |= added(all, a);
     }
     all
 }
 
 // Those of the 64 sets that are a marked one of them and an action more.
+#[tactic(auto, unfolding(crate::specs::Covers::less_of))]
 fn larger(marks: u64) -> u64
     ensures { result ≡ less_of marks 6 }
 {
     let mut all: u64 = 0;
-    for a in 0..6usize {
-        all = all | added(marks, a);
+    for a in 0..6 {
+        all |= added(marks, a);
     }
     all
 }
 
 // Those of the sets of w that are marked without one of the actions from 6 on.
-pub fn low(table: &[u64; WORDS], w: u16) -> u64
-    requires { w ≤ 1023 }
-    ensures { result ≡ low_of table.now w }
+#[tactic(auto, unfolding(columns::specs::Sets::picked), using(mask::proofs::Bits::worth))]
+pub fn low(table: &[u64; WORDS], w: WordNumber) -> u64
+    ensures { result ≡ low_of table.now w.w }
 {
-    let mut word: u64 = 0;
-    for b in 0..10usize {
-        if mask::has(w, b) {
-            let less = (w - (1u16 << b)) as usize;
-            word = word | table[less];
+    let mut word = 0;
+    for b in 0..10 {
+        if mask::has(w.w, b) {
+            word |= table[(w.w - (1 << b)) as usize];
         }
     }
     word
@@ -69,7 +70,7 @@ pub fn step(members: u64, low: u64) -> Both
     let covered = closed(members | low);
     let under = low | larger(covered);
     Both {
-        covered: covered,
+        covered,
         slim: members ^ (members & under),
     }
 }
@@ -79,7 +80,7 @@ pub fn sets_of(actions: u8) -> usize
     requires { actions ≤ most_actions }
     ensures { result ≡ 2 ^ actions }
 {
-    1usize << (actions as usize)
+    1 << actions
 }
 
 // The number of words that hold them.
@@ -87,5 +88,5 @@ pub fn words_of(actions: u8) -> usize
     requires { actions ≤ most_actions }
     ensures { result ≡ word_count actions }
 {
-    (sets_of(actions) + 63) / 64
+    sets_of(actions).div_ceil(64)
 }

@@ -1,5 +1,5 @@
 -- What each case of an answer means, in document 01's terms: the calls promise it of what they return.
-use Rattle.std.specs.Prelude.{ℕ, ◌≤◌, ◌<◌, List, ◌++◌, ◌↔◌, ◌≢◌, ◌≡◌, T, length, get_or, take, drop}
+use Rattle.std.specs.Prelude.{ℕ, ◌≤◌, ◌<◌, List, ◌++◌, ◌↔◌, ◌≢◌, ◌≡◌, T, length, get_or, take, drop, Some, None, Result, Ok, Err}
 use Rattle.policy.specs.declared.Policy.{Policy}
 use Rattle.policy.specs.declared.Query.{Query}
 use Rattle.policy.specs.declared.Queries.{Queries}
@@ -8,15 +8,11 @@ use Rattle.policy.specs.Questions.{Question, first_no, query_questions, Accepted
 use Rattle.model.specs.World.{world_of}
 use Rattle.model.specs.Derivation.{Derives}
 use Rattle.weight.specs.Cost.{cost_of}
-use Rattle.engine.specs.declared.Verdict.{Verdict}
-use Rattle.engine.specs.declared.Verdict.TheVariants.{Refused as judge-refused, Judged}
+use Rattle.policy.specs.declared.refusal.Refusal.{Refusal}
+use Rattle.policy.specs.Refusal.{number_of}
 use Rattle.engine.specs.declared.Firing.{Firing}
-use Rattle.engine.specs.declared.Answer.{Answer}
-use Rattle.engine.specs.declared.Answer.TheVariants.{Refused as choose-refused, None, Chosen}
-use Rattle.engine.specs.declared.Listing.{Listing}
-use Rattle.engine.specs.declared.Listing.TheVariants.{Refused as list_refused, Listed}
 use Rattle.engine.specs.Sets.{Enough, Best, BestKeep, Lists}
-use Rattle.engine.specs.Calls.{check_of, offer_questions, list_questions, slim_sets}
+use Rattle.engine.specs.Calls.{Verdict, Answer, Listing, check_of, offer_questions, list_questions, slim_sets}
 
 -- n is the number of the first question answered no
 abbrev pub Refuses : List Question → ℕ → Type 0
@@ -26,10 +22,10 @@ Refuses qs n = (first_no qs ≡ n) × (n ≢ 0)
 abbrev pub AllYes : List Question → Type 0
 AllYes qs = first_no qs ≡ 0
 
--- what is said of a policy with its queries: 0 exactly where it is accepted by itself and with each of at most 64 queries
-abbrev pub Checks : Policy → Queries → ℕ → Type 0
-Checks p qs n =
-    (n ≡ 0) ↔ ((check_of p ≡ 0) × (qs.count ≤ most_queries) × ((i : ℕ) → i < qs.count → Accepted p (get_or qs.at i zero_query)))
+-- what is said of a policy with its queries: accepted exactly where it is so by itself and with each of at most 64 queries
+abbrev pub Checks : Policy → Queries → Result (Unit {0}) Refusal → Type 0
+Checks p qs r =
+    (r ≡ Ok tt) ↔ ((check_of p ≡ 0) × (qs.count ≤ most_queries) × ((i : ℕ) → i < qs.count → Accepted p (get_or qs.at i zero_query)))
 
 module _ (p : Policy) (q : Query) where
   -- there are n slim sets, and `slim_sets` lists them
@@ -38,8 +34,8 @@ module _ (p : Policy) (q : Query) where
 
   -- what Judge says of the offered set s
   abbrev pub Judges : ℕ → Verdict → Type 0
-  Judges s (judge-refused n) = Refuses (offer_questions p q s) n
-  Judges s (Judged j) = AllYes (offer_questions p q s) × (T j.enough ↔ Enough p q s) × (j.cost ≡ cost_of p s)
+  Judges s (Err e) = Refuses (offer_questions p q s) (number_of e)
+  Judges s (Ok j) = AllYes (offer_questions p q s) × (T j.enough ↔ Enough p q s) × (j.cost ≡ cost_of p s)
 
   -- the entries below a firing's count are a derivation of want in the world of s
   abbrev pub Shows : ℕ → Firing → Type 0
@@ -60,13 +56,13 @@ module _ (p : Policy) (q : Query) where
 
   -- what Choose answers
   abbrev pub Chooses : Answer → Type 0
-  Chooses (choose-refused n) = Refuses (query_questions p q) n
-  Chooses None = Accepted p q × ((s : ℕ) → Enough p q s → ⊥)
-  Chooses (Chosen c) =
+  Chooses (Err e) = Refuses (query_questions p q) (number_of e)
+  Chooses (Ok None) = Accepted p q × ((s : ℕ) → Enough p q s → ⊥)
+  Chooses (Ok (Some c)) =
       Accepted p q × Best p q c.mask × BestKeep p q c.mask c.keep × (c.cost ≡ cost_of p c.mask) × SlimCount c.slim
 
   -- what List answers, and what the lent list holds before and after
   abbrev pub ListsSlim : List ℕ → List ℕ → Listing → Type 0
-  ListsSlim before after (list_refused n) = Refuses (list_questions p q (length before)) n × (after ≡ before)
-  ListsSlim before after (Listed n) =
+  ListsSlim before after (Err e) = Refuses (list_questions p q (length before)) (number_of e) × (after ≡ before)
+  ListsSlim before after (Ok n) =
       AllYes (list_questions p q (length before)) × SlimCount n × (after ≡ slim_sets p q ++ drop n before)

@@ -1,5 +1,5 @@
 -- Sixty-four sets in a word, as document 02 has them (F-9): what each bit means, and what the call answers.
-use Rattle.std.specs.Prelude.{ℕ, ◌≤◌, ◌<◌, Bool, ◌&&◌, false, List, ◌↔◌, ◌≢◌, ◌≡◌, T, leb, length, get_or, replicate}
+use Rattle.std.specs.Prelude.{ℕ, ◌≤◌, ◌<◌, Bool, ◌&&◌, false, List, ◌↔◌, ◌≢◌, ◌≡◌, T, leb, length, get_or, replicate, Ok}
 use Rattle.mask.specs.Mask.{has}
 use Rattle.policy.specs.declared.Policy.{Policy}
 use Rattle.policy.specs.declared.Query.{Query}
@@ -8,7 +8,6 @@ use Rattle.weight.specs.Cost.{cost_of}
 use Rattle.columns.specs.Sets.{set_at}
 use Rattle.words.specs.Models.{asking, model_of}
 use Rattle.engine.specs.declared.WordModel.{WordModel}
-use Rattle.engine.specs.declared.Verdict.TheVariants.{Judged}
 use Rattle.engine.specs.Sets.{Offered, Enough}
 use Rattle.engine.specs.Calls.{refused_or, judge_of}
 use Rattle.engine.specs.Meaning.{Refuses}
@@ -19,13 +18,16 @@ word_bit r d i = has (get_or r.word d 0) i
 
 module _ (p : Policy) (q : Query) (w : ℕ) where
   -- questions 3 to 6: 3 is put to the query and to w too
+  abbrev pub word_in_range : Bool
+  word_in_range = query_in_range p q && leb w 1023
+
   unfoldable pub word_questions : List Question
-  word_questions = questions p (query_in_range p q && leb w 1023)
+  word_questions = questions p word_in_range
 
   -- what is promised of the answer: with decision d as want, bit i of its word is the judgment of the set 64 w + i
   pub record SaysWords (r : WordModel) : Type 0 where
     pub judged : r.refusal ≡ 0 → (d i : ℕ) → d < p.decisions → i < 64 → Offered p q (set_at w i)
-        → (judge_of p (asking q d) (set_at w i) ≡ Judged (record { enough = word_bit r d i; cost = cost_of p (set_at w i) }))
+        → (judge_of p (asking q d) (set_at w i) ≡ Ok (record { enough = word_bit r d i; cost = cost_of p (set_at w i) }))
         × (T (word_bit r d i) ↔ Enough p (asking q d) (set_at w i))
     -- the bits of all other masks are 0: they share with done, or reach 2 ^ M
     pub shut : (d i : ℕ) → i < 64 → ¬ Offered p q (set_at w i) → word_bit r d i ≡ false

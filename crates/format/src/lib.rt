@@ -1,4 +1,5 @@
-// The bounds of a file, and the entries of zeros that stand past the counts of its record.
+// The bounds of a file, and the entries of zeros that stand past the counts of its record. The entries are functions, and
+// no constants or `Default`, since each promises the value that a definition of the format names.
 #![tactic(auto)]
 
 ghost use Rattle.std.specs.Prelude.{[], ◌≡◌};
@@ -15,23 +16,26 @@ pub const MOST_BYTES: usize = 32768;
 pub const LONGEST_FILE: usize = 27294;
 
 // A list of no decision.
+#[tactic(auto, unfolding(crate::specs::Format::decisions_of, base::specs::Lists::filled))]
 pub fn list_of_none() -> Decisions
     ensures { result ≡ decisions_of [] }
 {
-    let at = [0u8; MOST_LISTED];
-    Decisions { count: 0, at }
+    Decisions {
+        count: 0,
+        at: [0; MOST_LISTED],
+    }
 }
 
 // A rule of zeros.
+#[tactic(auto, unfolding(crate::specs::Entries::zero_rule))]
 pub fn zero_rule() -> Rule
     ensures { result ≡ zero_rule }
 {
-    let none = list_of_none();
     Rule {
         head: 0,
         needs: 0,
-        ifs: none,
-        unless: none,
+        ifs: list_of_none(),
+        unless: list_of_none(),
     }
 }
 

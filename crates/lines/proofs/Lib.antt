@@ -1,7 +1,5 @@
 -- Laws that the proofs of the functions cite.
 pub mod Bytes
-pub mod Steps
 pub mod Numbers
 pub mod OneMore
-pub mod Held
-pub mod Cut
+pub mod Parts

@@ -1,2 +1,2 @@
--- What is read of one line.
-pub mod Places
+-- What a reader hands back, as an outcome of the parsers.
+pub mod Outcomes

@@ -1,89 +1,112 @@
-// Reading one line of a file: one with a number, one with a kind, and in `lists` one with a list.
-#![tactic(auto)]
+// Reading a file line by line.
+#![tactic(auto, using(crate::proofs::Bytes::line_parts), unfolding(crate::specs::Outcomes::outcome_by, crate::specs::Outcomes::list_in, format::specs::Parser::ask, format::specs::Parser::onward, format::specs::Parser::end, format::specs::Format::line, format::specs::Format::number_line, format::specs::Format::kind_line, format::specs::Format::list_line))]
 
-ghost use Rattle.std.specs.Prelude.{◌≤◌, max};
-ghost use Rattle.format.specs.Format.{number_line, kind_line};
-ghost use Rattle.lines.specs.Places.{Parsed};
+ghost use Rattle.std.specs.Prelude.{◌≡◌, ◌≤◌, ◌==◌, IfOk};
+ghost use Rattle.std.specs.List.{position};
+ghost use Rattle.format.specs.Parser.{exactly, rest_of_line, end};
+ghost use Rattle.format.specs.Format.{line, number_line, kind_line, list_line};
+ghost use Rattle.lines.specs.Outcomes.{outcome, outcome_by};
 
-use policy::Kind;
-use text::Spelt;
+use policy::{Decisions, Kind, Refusal};
+use std::marker::Model;
 
-pub mod lists;
-mod text;
+mod contents;
 
-// Where reading goes on, or the number of the question answered no.
-#[derive(Clone, Copy)]
-pub enum Place {
-    Refused(u8),
-    At(usize),
+// The bytes of a file that are left to read.
+#[derive(Drop)]
+pub struct Lines<'a> {
+    rest: &'a [u8],
 }
 
-// A number and the place after its line.
-#[derive(Clone, Copy)]
-pub struct NumberAt {
-    pub place: Place,
-    pub value: u16,
+impl<'a> Model for Lines<'a> {
+    ghost use Rattle.std.specs.Prelude.{List, ℕ};
+
+    ghost Value = { List ℕ };
+
+    ghost view = { λ s. s.rest.now };
 }
 
-#[derive(Clone, Copy)]
-pub struct KindAt {
-    pub place: Place,
-    pub kind: Kind,
-}
-
-// A number from lo to hi, and lo where it is refused.
-pub fn number_line(s: &[u8], from: Place, key: &[u8], lo: u16, hi: u16) -> NumberAt
-    ensures parsed { Parsed s.now from (number_line key.now lo hi) result.place result.value }
-    ensures lo_le_value { (lo ≤ result.value) × (result.value ≤ max lo hi) }
+// The place of the first LF.
+fn line_end(s: &[u8]) -> Option<usize>
+    ensures { result ≡ position (λ b. b == 10) s.now }
 {
-    let line = text::line_at(s, from, key);
-    let mut place = line.place;
-    let Place::At(_) = place else {
-        return NumberAt { place, value: lo };
-    };
-    let start = line.start;
-    let end = line.end;
-    let Spelt::Number(number) = text::number(&s[start..end]) else {
-        place = Place::Refused(2);
-        return NumberAt { place, value: lo };
-    };
-    if number < lo as u32 {
-        place = Place::Refused(3);
-        return NumberAt { place, value: lo };
-    }
-    let most = hi as u32;
-    if most < number {
-        place = Place::Refused(3);
-        return NumberAt { place, value: lo };
-    }
-    let value = number as u16;
-    NumberAt { place, value }
+    s.iter().position(|b| *b == b'\n')
 }
 
-// A kind, p or o.
-pub fn kind_line(s: &[u8], from: Place) -> KindAt
-    ensures { Parsed s.now from kind_line result.place result.kind }
-{
-    let line = text::line_at(s, from, b"kind");
-    let mut place = line.place;
-    let mut kind = Kind::Provision;
-    let Place::At(_) = place else {
-        return KindAt { place, kind };
-    };
-    let start = line.start;
-    let end = line.end;
-    let c = &s[start..end];
-    if c.len() != 1 {
-        place = Place::Refused(2);
-        return KindAt { place, kind };
+impl<'a> Lines<'a> {
+    // All bytes are left.
+    pub fn new(bytes: &'a [u8]) -> Lines<'a>
+        ensures { result ≡ bytes.now }
+    {
+        Lines { rest: bytes }
     }
-    if c[0] == b'p' {
-        return KindAt { place, kind };
+
+    // Passes these bytes.
+    fn pass(&mut self, key: &[u8]) -> Result<(), Refusal>
+        ensures { outcome result self.new ≡ exactly key.now self.old }
+    {
+        self.rest = self.rest.strip_prefix(key).ok_or(Refusal::Malformed)?;
+        Ok(())
     }
-    if c[0] == b'o' {
-        kind = Kind::Obligation;
-        return KindAt { place, kind };
+
+    // The bytes up to the next LF, which is passed too.
+    fn rest_of_line(&mut self) -> Result<&'a [u8], Refusal>
+        ensures { outcome_by (λ c. c.now) result self.new ≡ rest_of_line self.old }
+    {
+        let rest = self.rest;
+        let end = line_end(rest).ok_or(Refusal::Malformed)?;
+        self.rest = &rest[end + 1..];
+        Ok(&rest[..end])
     }
-    place = Place::Refused(2);
-    KindAt { place, kind }
+
+    // The contents of the line with this key.
+    fn line(&mut self, key: &[u8]) -> Result<&'a [u8], Refusal>
+        ensures { outcome_by (λ c. c.now) result self.new ≡ line key.now self.old }
+    {
+        self.pass(key)?;
+        self.pass(b"=")?;
+        self.rest_of_line()
+    }
+
+    // A number from lo to hi.
+    pub fn number(&mut self, key: &[u8], lo: u16, hi: u16) -> Result<u16, Refusal>
+        ensures read { outcome result self.new ≡ number_line key.now lo hi self.old }
+        ensures in_range { IfOk result (λ v. (lo ≤ v) × (v ≤ hi)) }
+    {
+        let number = contents::number(self.line(key)?)?;
+        if !(lo as u32..=hi as u32).contains(&number) {
+            return Err(Refusal::OutOfRange);
+        }
+        Ok(number as u16)
+    }
+
+    // A kind, p or o.
+    pub fn kind(&mut self) -> Result<Kind, Refusal>
+        ensures { outcome result self.new ≡ kind_line self.old }
+    {
+        contents::kind(self.line(b"kind")?)
+    }
+
+    // A list of rising decisions below n.
+    pub fn decisions(&mut self, key: &[u8], n: u8) -> Result<Decisions, Refusal>
+        ensures { outcome result self.new ≡ list_line key.now n self.old }
+    {
+        let list = contents::list(self.line(key)?, n)?;
+        if list.rises() {
+            Ok(list)
+        } else {
+            Err(Refusal::NotRising)
+        }
+    }
+
+    // Nothing is left.
+    pub fn end(&self) -> Result<(), Refusal>
+        ensures { outcome result self.now ≡ end self.now }
+    {
+        if self.rest.is_empty() {
+            Ok(())
+        } else {
+            Err(Refusal::Malformed)
+        }
+    }
 }

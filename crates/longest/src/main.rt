@@ -1,38 +1,33 @@
 // The program `longest`: writes the file whose query has the most slim sets.
 #![tactic(auto)]
 
-ghost use Rattle.std.specs.Prelude.{◌≡◌, length};
-ghost use Rattle.format.specs.Bounds.{longest_file};
-ghost use Rattle.text.specs.Handing.{text_at};
-ghost use Rattle.printing.specs.Texts.{longest_texts};
-
 use format::LONGEST_FILE;
-use text::Printed;
+use text::Texts;
 
-// Writes text i, and answers whether all of it was taken.
-fn write(text: &[u8], i: usize) -> bool
-    requires { text.now ≡ text_at longest_texts i }
-{
-    io::write_all(1, text)
-}
+// What is printed.
+#[derive(Drop)]
+struct Printed;
 
-// Writes the texts in turn until none is left, or one was not taken.
-fn print(buffer: &mut [u8]) -> bool
-    requires { length buffer.old ≡ longest_file }
-{
-    let mut i = 0;
-    while let Printed::Length(end) = printing::longest(i, buffer) {
-        if !write(&buffer[..end], i) {
-            return false;
-        }
-        i += 1;
+impl Texts<LONGEST_FILE> for Printed {
+    ghost use Rattle.std.proofs.Common.{lit<, lit≤};
+    ghost use Rattle.printing.specs.Texts.{longest_texts};
+    ghost use Rattle.longest.specs.Laws.Written.{longest_fits};
+
+    ghost texts = { λ _. longest_texts };
+
+    fn text(&self, i: usize, buffer: &mut [u8]) -> Option<usize> {
+        printing::longest(i, buffer)
     }
-    true
+
+    ghost small = { lit< tt };
+
+    ghost fit = { λ _. longest_fits };
+
+    ghost few = { λ _. lit≤ tt };
 }
 
 fn main() {
-    let mut buffer = [0u8; LONGEST_FILE];
-    if !print(&mut buffer) {
+    if !text::print(&Printed) {
         io::write_all(2, b"longest: the output could not be written\n");
     }
 }

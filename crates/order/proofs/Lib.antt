@@ -1,2 +1,2 @@
--- Laws that the proofs of the functions cite.
+-- Laws that several of the proofs cite.
 pub mod Noting

@@ -2,33 +2,31 @@
 // that reprice return for their policies and the first's queries.
 #![tactic(auto)]
 
-use base::smaller;
 use format::MOST_BYTES;
-use policy::{MOST_QUERIES, Policy, Queries};
-use query_lines::{keyed, text};
+use policy::{Policy, Queries};
+use probing::{keyed, text};
+use query_lines::Pair;
 
 mod query_lines;
 mod spoilt;
 
 // Writes the lines of two policies and the queries of the first.
-fn answer(before: Policy, after: Policy, queries: Queries) {
-    keyed(b"comparable=", alike::comparable(before, after) as u32);
+fn answer(before: &Policy, after: &Policy, queries: &Queries) {
+    keyed(b"comparable=", alike::comparable(*before, *after));
     text(b"\n");
-    let query = queries.at;
-    let count = smaller(queries.count as usize, MOST_QUERIES);
-    for i in 0..count {
-        let one = query[i];
-        query_lines::of(before, after, one);
+    let pair = Pair { before, after };
+    let asked = queries.asked();
+    for query in asked {
+        query_lines::of(&pair, *query);
     }
-    if count != 0 {
-        let first = query[0];
-        spoilt::lines(before, after, first);
+    if let Some(first) = asked.first() {
+        spoilt::lines(&pair, *first);
     }
 }
 
 // Writes the line of a refusal.
 fn refused(number: u8) {
-    keyed(b"refused=", number as u32);
+    keyed(b"refused=", number);
     text(b"\n");
 }
 
@@ -41,11 +39,9 @@ fn main() {
     let after = reader::draft(&second[..n]);
     if before.refusal != 0 {
         refused(before.refusal);
-        return;
-    }
-    if after.refusal != 0 {
+    } else if after.refusal != 0 {
         refused(after.refusal);
-        return;
+    } else {
+        answer(&before.policy, &after.policy, &before.queries);
     }
-    answer(before.policy, after.policy, before.queries);
 }

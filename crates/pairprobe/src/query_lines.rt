@@ -1,51 +1,46 @@
-// The lines of a query, and the texts in them.
+// The lines of a query.
 use policy::{Policy, Query};
-use repricing::{Price, Repriced};
+use probing::{keyed, named, text};
 
-// Writes a text.
-pub(crate) fn text(bytes: &[u8]) {
-    io::write_all(1, bytes);
-}
-
-// Writes a text and a number after it.
-pub(crate) fn keyed(key: &[u8], n: u32) {
-    text(key);
-    io::print_decimal(1, n as u64);
+// Two policies, before a change and after it.
+#[derive(Clone, Copy)]
+pub(crate) struct Pair<'a> {
+    pub(crate) before: &'a Policy,
+    pub(crate) after: &'a Policy,
 }
 
 // Writes a text and a cost or none after it.
-fn price(key: &[u8], price: Price) {
+fn price(key: &[u8], price: Option<u32>) {
     match price {
-        Price::None => {
+        None => {
             text(key);
             text(b"none");
         }
-        Price::Cost(n) => keyed(key, n),
+        Some(n) => keyed(key, n),
     }
 }
 
-// Writes what `reprice` returns, and ends the line.
-pub(crate) fn reprice(before: Policy, after: Policy, query: Query) {
-    match repricing::reprice(before, after, query) {
-        Repriced::Refused(n) => keyed(b"refused=", n as u32),
-        Repriced::NotComparable => text(b"not comparable"),
-        Repriced::Compared(prices) => {
-            let before = prices.before;
-            let after = prices.after;
-            price(b"before=", before);
-            price(b" after=", after);
+impl Pair<'_> {
+    // Writes what `reprice` returns, and ends the line.
+    pub(crate) fn reprice(&self, query: Query) {
+        match repricing::reprice(*self.before, *self.after, query) {
+            Err(refusal) => keyed(b"refused=", u8::from(refusal)),
+            Ok(None) => text(b"not comparable"),
+            Ok(Some(prices)) => {
+                price(b"before=", prices.before);
+                price(b" after=", prices.after);
+            }
         }
+        text(b"\n");
     }
-    text(b"\n");
 }
 
 // Writes the lines of a query.
-pub(crate) fn of(before: Policy, after: Policy, query: Query) {
-    keyed(b"query want=", query.want as u32);
-    keyed(b" done=", query.done as u32);
-    text(b"\nreprice ");
-    reprice(before, after, query);
-    price(b"price before=", repricing::least_cost(before, query));
-    price(b" after=", repricing::least_cost(after, query));
+pub(crate) fn of(pair: &Pair, query: Query) {
+    named(query);
+    text(b"reprice ");
+    pair.reprice(query);
+    price(b"price before=", repricing::least_cost(*pair.before, query));
+    price(b" after=", repricing::least_cost(*pair.after, query));
     text(b"\n");
 }

@@ -1,127 +1,75 @@
 // The lines of policies in another order, with other entries past their counts, and spoilt so that a question is answered no.
-use crate::query_lines::{reprice, text};
-use policy::{Action, Decisions, Kind, Policy, Query, Rule};
+use crate::query_lines::Pair;
+use policy::{Policy, Query};
+use probing::{Change, text};
 
-// The list of these two decisions, of which so many count; the others are past its count.
-fn list(count: u8, first: u8, second: u8) -> Decisions {
-    Decisions {
-        count: count,
-        at: [first, second, 7, 7, 7, 7, 7, 7],
-    }
+// A change with its name in a line, or none for a policy as it is.
+type Way = Option<(&'static [u8], Change)>;
+
+// The ways to spoil a policy.
+const WAYS: [Way; 4] = [
+    Some((b"count", Change::Decisions)),
+    Some((b"falling", Change::Falling)),
+    Some((b"own", Change::OwnUnless)),
+    Some((b"itself", Change::DoesItself)),
+];
+
+// The policy with the change, or as it is where it has no entry to change.
+fn changed(policy: &Policy, change: Change) -> Policy {
+    change.of(policy).unwrap_or(*policy)
 }
 
-// The policy with other entries past its counts.
-fn past(policy: Policy) -> Policy {
-    let mut p = policy;
-    if policy.decisions < 128 {
-        p.level[127] = 9;
-    }
-    if policy.actions < 16 {
-        p.action[15] = Action {
-            kind: Kind::Obligation,
-            weight: 7,
-            also: 7,
-        };
-    }
-    if policy.rules < 256 {
-        p.rule[255] = Rule {
-            head: 7,
-            needs: 7,
-            ifs: list(2, 7, 7),
-            unless: list(8, 7, 7),
-        };
-    }
-    p
-}
-
-// The policy with 129 decisions.
-fn count(policy: Policy) -> Policy {
-    let mut p = policy;
-    p.decisions = 129;
-    p
-}
-
-// The policy whose rule 0 asks for the decisions 1 and 0, which do not rise.
-fn falling(policy: Policy) -> Policy {
-    let mut p = policy;
-    if policy.rules >= 1 && policy.decisions >= 2 {
-        let mut one = policy.rule[0];
-        one.ifs = list(2, 1, 0);
-        p.rule[0] = one;
-    }
-    p
-}
-
-// The policy whose rule 0 asks for its own head to be absent.
-fn own(policy: Policy) -> Policy {
-    let mut p = policy;
-    if policy.rules >= 1 {
-        let mut one = policy.rule[0];
-        one.unless = list(1, one.head, 0);
-        p.rule[0] = one;
-    }
-    p
-}
-
-// The policy whose action 0 does itself too.
-fn itself(policy: Policy) -> Policy {
-    let mut p = policy;
-    if policy.actions >= 1 {
-        let mut one = policy.action[0];
-        one.also = 1;
-        p.action[0] = one;
-    }
-    p
-}
-
-// Writes the name of way k to spoil a policy, and spoils it; from 4 on it is left as it is.
-fn spoil(k: u8, policy: Policy) -> Policy {
-    match k {
-        0 => {
-            text(b"count ");
-            count(policy)
-        }
-        1 => {
-            text(b"falling ");
-            falling(policy)
-        }
-        2 => {
-            text(b"own ");
-            own(policy)
-        }
-        3 => {
-            text(b"itself ");
-            itself(policy)
-        }
-        _ => {
-            text(b"- ");
-            policy
-        }
-    }
+// Writes the name of the way, and hands back the policy spoilt so.
+fn spoilt(policy: &Policy, way: Way) -> Policy {
+    let Some((name, change)) = way else {
+        text(b"- ");
+        return *policy;
+    };
+    text(name);
+    text(b" ");
+    changed(policy, change)
 }
 
 // Writes the line with the policies spoilt in these ways.
-fn line(before: Policy, after: Policy, query: Query, j: u8, k: u8) {
-    let first = spoil(j, before);
-    let second = spoil(k, after);
-    reprice(first, second, query);
+fn line(pair: &Pair, query: Query, first: Way, second: Way) {
+    let before = spoilt(pair.before, first);
+    let after = spoilt(pair.after, second);
+    let pair = Pair {
+        before: &before,
+        after: &after,
+    };
+    pair.reprice(query);
 }
 
 // Writes the lines of a query.
-pub(crate) fn lines(before: Policy, after: Policy, query: Query) {
+pub(crate) fn lines(pair: &Pair, query: Query) {
+    let Pair { before, after } = *pair;
     text(b"swapped ");
-    reprice(after, before, query);
-    text(b"same ");
-    reprice(before, before, query);
-    text(b"past ");
-    reprice(before, past(after), query);
-    for k in 0..4u8 {
-        line(before, after, query, k, 4);
-        line(before, after, query, 4, k);
+    Pair {
+        before: after,
+        after: before,
     }
-    for j in 0..4u8 {
-        for k in 0..4u8 {
-            line(before, after, query, j, k);
+    .reprice(query);
+    text(b"same ");
+    Pair {
+        before,
+        after: before,
+    }
+    .reprice(query);
+    text(b"past ");
+    let unused = changed(after, Change::Unused);
+    Pair {
+        before,
+        after: &unused,
+    }
+    .reprice(query);
+    for way in WAYS {
+        line(pair, query, way, None);
+        line(pair, query, None, way);
+    }
+    for first in WAYS {
+        for second in WAYS {
+            line(pair, query, first, second);
         }
     }
 }

@@ -3,25 +3,51 @@ use Prim.Native.Nat.{ℕ}
 use mathlib.Core.Bool.{true, false}
 use mathlib.Core.List.{List, [], ◌∷◌, map}
 use mathlib.Core.Path.{◌≡◌, sym, ◌∙◌, ap₂, subst}
-use lib.ListN.{length, take}
-use Rattle.text.specs.Handing.{handed_out, held_after, Hands}
+use lib.ListN.{take}
 use Rattle.engine.specs.Laws.Refusals.{answered, refused}
 use Rattle.alike.specs.Comparable.{comparable}
-use Rattle.text.specs.Put.{refused_text}
-use Rattle.text.specs.declared.Printed.{Printed}
-use Rattle.text.specs.Laws.Handed.{Promised}
+use Rattle.std.specs.Slice.{IsItemAt}
+use Rattle.std.specs.Borrow.{Bor}
+use Rattle.std.proofs.Common.{Option, Some, None}
+use Rattle.policy.specs.declared.Query.{Query}
+use Rattle.policy.specs.Record.{asked_of}
+use Rattle.policy.specs.declared.Policy.{Policy}
+use Rattle.policy.specs.declared.Queries.{Queries}
+use Rattle.policy.specs.declared.refusal.Refusal.{Refusal}
+use Rattle.policy.specs.Refusal.{number_of, outcome}
+use Rattle.policy.specs.Questions.{refused_or, check_record_of, queries_in_range}
+use Rattle.policy.specs.Laws.{first_no_few}
+use Rattle.policy.specs.Laws.Refusals.{number_of_refusal}
+use Rattle.std.proofs.lemmas.Option.{none-some, same_Some}
+use Rattle.std.specs.Result.{result_err}
+use Rattle.std.specs.Option.{option_map}
+use Rattle.std.proofs.Common.{Result, ap, arith, ◌≤◌, zero, suc, refl}
+use Rattle.text.specs.Put.{Puts, refused_text}
+use Rattle.text.specs.Laws.Handed.{Promised, each_over, each_put}
 use Rattle.reader.specs.declared.Reading.{Reading}
 use Rattle.reader.specs.File.{read_of}
 use Rattle.pairs.specs.Texts.{query_text, apart_text, refusal_of, pair_texts, reprice_texts}
 
--- the three promises of `reprice`
-abbrev Prints : List ℕ → List ℕ → ℕ → List ℕ → List ℕ → Printed → Type 0
-Prints s s' i before after p =
-    record {
-      value : p ≡ handed_out (reprice_texts s s') i (length before);
-      buffer_after : after ≡ held_after (reprice_texts s s') i before;
-      hands : Hands (reprice_texts s s') i before after p;
-    }
+-- the number that questions 3 to 6 refuse by
+pub record_refused : (p : Policy) (qs : Queries) {r : Result (Unit {0}) Refusal} {o : Option Refusal} {n : Option ℕ}
+    → r ≡ outcome (check_record_of p qs) → o ≡ result_err r → n ≡ option_map number_of o → n ≡ refused_or (check_record_of p qs) Some None
+unfolding outcome refused_or check_record_of
+record_refused p qs {r} {o} {n} asked err number = go (check_record_of p qs) (first_no_few p (queries_in_range p qs)) asked
+  where
+    go : (k : ℕ) → k ≤ 6 → r ≡ outcome k → n ≡ refused_or k Some None
+    go zero few e = rw (number, err, e)
+    go (suc k) few e = rw (number, err, e) (ap Some (number_of_refusal (suc k) (λ z. omega arith) (omega arith)))
+
+-- what such a number says, and that there is none
+pub some_refused : (k : ℕ) {n : ℕ} → Some n ≡ refused_or k Some None → (n ≡ k) × (¬ (n ≡ 0))
+unfolding refused_or
+some_refused zero e = absurd (none-some _ (sym e))
+some_refused (suc k) {n} e = let same = same_Some n (suc k) e in (same, λ z. omega (arith, same))
+
+pub none_refused : (k : ℕ) {o : Option ℕ} → o ≡ refused_or k Some None → ((n : ℕ) → o ≡ Some n → ⊥) → k ≡ 0
+unfolding refused_or
+none_refused zero e not = refl
+none_refused (suc k) e not = absurd (not (suc k) e)
 
 module _ (s s' : List ℕ) {r r' : Reading} (read : r ≡ read_of s) (read' : r' ≡ read_of s') where
   files : pair_texts r r' ≡ reprice_texts s s'
@@ -44,20 +70,28 @@ module _ (s s' : List ℕ) {r r' : Reading} (read : r ≡ read_of s) (read' : r'
   query_texts_lem none e = rw e (answered (refusal_of r r') (λ n. refused_text n ∷ []) query_texts none)
 
   -- what is promised of other texts that are these
-  module _ (i : ℕ) (before after : List ℕ) (p : Printed) where
-    promised : {texts : List (List ℕ)} → texts ≡ reprice_texts s s' → Promised texts i before after p → Prints s s' i before after p
-    promised e h =
-        let k = subst (λ (t : List (List ℕ)). Promised t i before after p) e h in
-        record { value = k.0; buffer_after = k.1.0; hands = k.1.1 }
+  module _ (i : ℕ) (before : List ℕ) where
+    promised : {texts : List (List ℕ)} (after : List ℕ) (p : Option ℕ) → texts ≡ reprice_texts s s' → Promised texts i before after p
+        → Promised (reprice_texts s s') i before after p
+    promised after p e h = subst (λ (t : List (List ℕ)). Promised t i before after p) e h
 
-    pub of_refused : {n : ℕ} → n ≡ refusal_of r r' → ¬ (n ≡ 0) → Promised (refused_text n ∷ []) i before after p
-        → Prints s s' i before after p
-    of_refused e some = promised (refused_texts e some)
+    pub of_refused : {n : ℕ} {after : List ℕ} {p : Option ℕ} → n ≡ refusal_of r r' → ¬ (n ≡ 0)
+        → Promised (refused_text n ∷ []) i before after p → Promised (reprice_texts s s') i before after p
+    of_refused {after = after} {p = p} e some = promised after p (refused_texts e some)
 
-    pub of_apart : refusal_of r r' ≡ 0 → comparable r.policy r'.policy ≡ false → Promised (apart_text ∷ []) i before after p
-        → Prints s s' i before after p
-    of_apart none e = promised (sym (apart_texts none e) ∙ files)
+    module _ (none : refusal_of r r' ≡ 0) where
+      pub of_apart : {after : List ℕ} {p : Option ℕ} → comparable r.policy r'.policy ≡ false → Promised (apart_text ∷ []) i before after p
+          → Promised (reprice_texts s s') i before after p
+      of_apart {after} {p} e = promised after p (sym (apart_texts none e) ∙ files)
 
-    pub of_queries : refusal_of r r' ≡ 0 → comparable r.policy r'.policy ≡ true → Promised query_texts i before after p
-        → Prints s s' i before after p
-    of_queries none e = promised (sym (query_texts_lem none e) ∙ files)
+      module _ (alike : comparable r.policy r'.policy ≡ true) {qs : List Query} (asked : qs ≡ asked_of r.queries) where
+        texts : map (query_text r.policy r'.policy) (asked_of r.queries) ≡ reprice_texts s s'
+        texts = sym (query_texts_lem none alike) ∙ files
+
+        pub queries_over : IsItemAt qs i None → Promised (reprice_texts s s') i before before None
+        queries_over got = promised before None texts (each_over (query_text r.policy r'.policy) asked i before got)
+
+        pub query_put : (q : Bor Query) {after : List ℕ} {n : ℕ} → IsItemAt qs i (Some q)
+            → Puts before 0 (query_text r.policy r'.policy q.now) after n → Promised (reprice_texts s s') i before after (Some n)
+        query_put q {after} {n} got put =
+            promised after (Some n) texts (each_put (query_text r.policy r'.policy) asked i before q got put)

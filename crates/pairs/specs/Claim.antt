@@ -1,12 +1,10 @@
 -- What `reprice` prints for two files, by what the call `reprice` returns for each query of the first.
-use Rattle.std.specs.Prelude.{ℕ, ◌<◌, List, [], ◌∷◌, ◌≢◌, ◌≡◌, length}
+use Rattle.std.specs.Prelude.{ℕ, ◌<◌, List, [], ◌∷◌, ◌≢◌, ◌≡◌, length, Some, None, Ok}
 use Rattle.policy.specs.declared.Policy.{Policy}
 use Rattle.policy.specs.Questions.{check_record_of}
 use Rattle.alike.specs.Comparable.{Comparable}
 use Rattle.repricing.specs.declared.Prices.{Prices}
-use Rattle.repricing.specs.declared.Repriced.{Repriced}
-use Rattle.repricing.specs.declared.Repriced.TheVariants.{NotComparable, Compared}
-use Rattle.repricing.specs.Call.{reprice_of}
+use Rattle.repricing.specs.Call.{Repriced, reprice_of}
 use Rattle.text.specs.Put.{refused_text}
 use Rattle.text.specs.Handing.{text_at}
 use Rattle.reader.specs.File.{read_of}
@@ -34,10 +32,10 @@ module _ (s s' : List ℕ) where
     -- of two accepted files with comparable policies there is a text for each query of the first: the two costs that the call returns
     pub many : AcceptedFile s → AcceptedFile s' → Comparable old new → length (reprice_texts s s') ≡ count
     pub each : AcceptedFile s → AcceptedFile s' → Comparable old new → (i : ℕ) → i < count
-        → (c : Prices) × (answer_to i ≡ Compared c) × (text_at (reprice_texts s s') i ≡ prices_text (query_of (read_of s) i).want c)
+        → (c : Prices) × (answer_to i ≡ Ok (Some c)) × (text_at (reprice_texts s s') i ≡ prices_text (query_of (read_of s) i).want c)
     -- with others there is one line: that they are not comparable, and so the call says for each query; or the refusal, where the
     -- second's policy is refused with a query of the first
     pub apart : AcceptedFile s → AcceptedFile s' → ¬ Comparable old new → check_record_of new (read_of s).queries ≡ 0
-        → (reprice_texts s s' ≡ apart_text ∷ []) × ((i : ℕ) → i < count → answer_to i ≡ NotComparable)
+        → (reprice_texts s s' ≡ apart_text ∷ []) × ((i : ℕ) → i < count → answer_to i ≡ Ok None)
     pub over : AcceptedFile s → AcceptedFile s' → check_record_of new (read_of s).queries ≢ 0
         → reprice_texts s s' ≡ refused_text (check_record_of new (read_of s).queries) ∷ []

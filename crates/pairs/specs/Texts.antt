@@ -1,14 +1,12 @@
 -- What `reprice` prints for the bytes of two files: a refusal, that they are not comparable, or for each query of the first the least
 -- costs by both.
-use Rattle.std.specs.Prelude.{ℕ, true, false, List, [], ◌∷◌, ◌++◌, map, take}
+use Rattle.std.specs.Prelude.{ℕ, true, false, List, [], ◌∷◌, ◌++◌, map, take, Some, None}
 use Rattle.policy.specs.declared.Policy.{Policy}
 use Rattle.policy.specs.declared.Query.{Query}
 use Rattle.engine.specs.Calls.{refused_or, check_record_of}
 use Rattle.alike.specs.Comparable.{comparable}
-use Rattle.repricing.specs.declared.Price.{Price}
-use Rattle.repricing.specs.declared.Price.TheVariants.{None, Cost}
 use Rattle.repricing.specs.declared.Prices.{Prices}
-use Rattle.repricing.specs.Call.{prices}
+use Rattle.repricing.specs.Call.{Price, prices}
 use Rattle.format.specs.Text.{ascii, decimal}
 use Rattle.format.specs.Written.{line_of}
 use Rattle.text.specs.Put.{refused_text}
@@ -22,7 +20,7 @@ longest_prices = 64
 -- a cost, or none
 unfoldable pub price_text : Price → List ℕ
 price_text None = ascii "none"
-price_text (Cost n) = decimal n
+price_text (Some n) = decimal n
 
 -- the lines of a query, by what it wants and the two costs
 unfoldable pub prices_text : ℕ → Prices → List ℕ

@@ -1,80 +1,77 @@
 // What `reprice` prints for the bytes of two files: a refusal, that they are not comparable, or for each query of the first what it
-// costs by both policies. Each function that puts a text into the lent buffer returns where it ends; bytes that do not fit are dropped.
+// costs by both policies.
 #![tactic(auto)]
 
-ghost use Rattle.std.specs.Prelude.{[], ◌∷◌, ◌++◌, ◌≡◌, length};
-ghost use Rattle.format.specs.Text.{ascii};
-ghost use Rattle.text.specs.Put.{Puts, refused_text};
+ghost use Rattle.std.specs.Prelude.{◌≡◌, length};
+ghost use Rattle.policy.specs.Questions.{refused_or};
 ghost use Rattle.text.specs.Handing.{handed_out, held_after, Hands};
-ghost use Rattle.text.specs.Laws.Handed.{Promised};
-ghost use Rattle.pairs.specs.Texts.{price_text, query_text, apart_text, refusal_of, reprice_texts};
+ghost use Rattle.pairs.specs.Texts.{price_text, query_text, refusal_of, reprice_texts};
 
-use base::smaller;
-use policy::{MOST_QUERIES, Policy, Query};
+use policy::{Policy, Query};
 use reader::Reading;
-use repricing::Price;
-use text::Printed;
+use text::{Bytes, Pen, Refused, Text};
 
 // No text is longer.
 pub const LONGEST_PRICES: usize = 64;
 
-// Puts a line: a key with its = sign, and a cost or none.
-fn put_price(buffer: &mut [u8], at: usize, key: &[u8], price: Price) -> usize
-    ensures { Puts buffer.old at (key.now ++ (price_text price ++ ascii "\n")) buffer.new result }
-{
-    match price {
-        Price::None => {
-            let at = text::put(buffer, at, key);
-            text::put(buffer, at, b"none\n")
+// A cost, or none.
+#[derive(Drop)]
+struct Cost(Option<u32>);
+
+impl Text for Cost {
+    ghost text = { λ c. price_text c.0 };
+
+    #[tactic(auto, unfolding(crate::specs::Texts::price_text))]
+    fn put(&self, pen: &mut Pen<'_>) {
+        match self.0 {
+            None => pen.put(b"none"),
+            Some(n) => n.put(pen),
         }
-        Price::Cost(n) => text::line(buffer, at, key, n),
     }
 }
 
-// Puts the lines of a query: what it wants, and its least costs by both policies.
-fn put_query(buffer: &mut [u8], before: Policy, after: Policy, query: Query) -> usize
-    ensures { Puts buffer.old 0 (query_text before after query) buffer.new result }
-{
-    let at = text::line(buffer, 0, b"want=", query.want as u32);
-    let at = put_price(buffer, at, b"before=", repricing::least_cost(before, query));
-    put_price(buffer, at, b"after=", repricing::least_cost(after, query))
+// A query: what it wants, and its least costs by both policies.
+#[derive(Drop)]
+struct Asked<'a> {
+    before: &'a Policy,
+    after: &'a Policy,
+    query: &'a Query,
 }
 
-// The number of the first question answered no, or 0: the files', and those of the second's policy with the first's queries.
-fn refusal(first: Reading, second: Reading) -> u8
-    ensures { result ≡ refusal_of first second }
+impl Text for Asked<'_> {
+    ghost text = { λ a. query_text a.before.now a.after.now a.query.now };
+
+    #[tactic(auto, using(text::specs::Laws::Pens::with_both), unfolding(crate::specs::Texts::prices_text))]
+    fn put(&self, pen: &mut Pen<'_>) {
+        pen.line(b"want", &self.query.want);
+        pen.line(
+            b"before",
+            &Cost(repricing::least_cost(*self.before, *self.query)),
+        );
+        pen.line(
+            b"after",
+            &Cost(repricing::least_cost(*self.after, *self.query)),
+        );
+    }
+}
+
+// The number of the first question answered no, if one is: the files', and those of the second's policy with the first's queries.
+fn refusal(first: &Reading, second: &Reading) -> Option<u8>
+    ensures { result ≡ refused_or (refusal_of first.now second.now) Some None }
 {
     if first.refusal != 0 {
-        return first.refusal;
+        return Some(first.refusal);
     }
     if second.refusal != 0 {
-        return second.refusal;
+        return Some(second.refusal);
     }
     engine::check_record(second.policy, first.queries)
-}
-
-// Hands out the line of a refusal, and no other text.
-fn refused(n: u8, i: usize, buffer: &mut [u8]) -> Printed
-    ensures { Promised (refused_text n ∷ []) i buffer.old buffer.new result }
-{
-    if i != 0 {
-        return Printed::Nothing;
-    }
-    Printed::Length(text::refusal(buffer, 0, n))
-}
-
-// Hands out the line for policies that cannot be compared, and no other text.
-fn apart(i: usize, buffer: &mut [u8]) -> Printed
-    ensures { Promised (apart_text ∷ []) i buffer.old buffer.new result }
-{
-    if i != 0 {
-        return Printed::Nothing;
-    }
-    Printed::Length(text::put(buffer, 0, b"not comparable\n"))
+        .err()
+        .map(|refusal| u8::from(refusal))
 }
 
 // Text i of `reprice` for two files.
-pub fn reprice(before: &[u8], after: &[u8], i: usize, buffer: &mut [u8]) -> Printed
+pub fn reprice(before: &[u8], after: &[u8], i: usize, buffer: &mut [u8]) -> Option<usize>
     ensures value { result ≡ handed_out (reprice_texts before.now after.now) i (length buffer.old) }
     ensures buffer_after { buffer.new ≡
         held_after (reprice_texts before.now after.now) i buffer.old }
@@ -83,19 +80,16 @@ pub fn reprice(before: &[u8], after: &[u8], i: usize, buffer: &mut [u8]) -> Prin
 {
     let first = reader::read(before);
     let second = reader::read(after);
-    let number = refusal(first, second);
-    if number != 0 {
-        return refused(number, i, buffer);
+    if let Some(number) = refusal(&first, &second) {
+        return text::only(&Refused(number), i, buffer);
     }
     if !alike::comparable(first.policy, second.policy) {
-        return apart(i, buffer);
+        return text::only(&Bytes(b"not comparable\n"), i, buffer);
     }
-    let queries = first.queries;
-    let query = queries.at;
-    let count = smaller(queries.count as usize, MOST_QUERIES);
-    if i >= count {
-        return Printed::Nothing;
-    }
-    let one = query[i];
-    Printed::Length(put_query(buffer, first.policy, second.policy, one))
+    let asked = Asked {
+        before: &first.policy,
+        after: &second.policy,
+        query: first.queries.asked().get(i)?,
+    };
+    Some(text::start(&asked, buffer))
 }

@@ -3,96 +3,88 @@
 #![tactic(auto)]
 
 ghost use Rattle.std.specs.Prelude.{◌≡◌, length};
-ghost use Rattle.text.specs.Put.{Puts};
 ghost use Rattle.text.specs.Handing.{handed_out, held_after, Hands};
-ghost use Rattle.printing.specs.Texts.{levels_text, levels_texts, rewrite_text, rewrite_texts, longest_text, longest_texts};
+ghost use Rattle.printing.specs.Texts.{levels_text, levels_texts, rewrite_text, rewrite_texts, longest_texts};
 
-use base::smaller;
 use format::LONGEST_FILE;
 use policy::MOST_DECISIONS;
-use text::Printed;
-use writer::Written;
+use records::File;
+use text::{Pen, Refused, Text};
 
 // No text of `levels` is longer.
 pub const LONGEST_LEVELS: usize = 2176;
 
-// Puts the levels found for a file, or the refusal.
-fn put_levels(buffer: &mut [u8], file: &[u8]) -> usize
-    ensures { Puts buffer.old 0 (levels_text file.now) buffer.new result }
-{
-    let draft = reader::draft(file);
-    if draft.refusal != 0 {
-        return text::refusal(buffer, 0, draft.refusal);
-    }
-    let policy = draft.policy;
-    let found = engine::levels(policy);
-    if found.refusal != 0 {
-        return text::refusal(buffer, 0, found.refusal);
-    }
-    let level = found.level;
-    let count = smaller(policy.decisions as usize, MOST_DECISIONS);
-    text::lines(buffer, 0, b"level=", &level[..count])
-}
+// The levels found for a file, or the refusal.
+#[derive(Drop)]
+struct LevelsOf<'a>(&'a [u8]);
 
-// Puts what the writer makes of a file's record, or the refusal. The reader asks questions 1 to 4, and the writer 5 and 6.
-fn put_rewritten(buffer: &mut [u8], file: &[u8]) -> usize
-    ensures { Puts buffer.old 0 (rewrite_text file.now) buffer.new result }
-{
-    let read = reader::draft(file);
-    if read.refusal != 0 {
-        return text::refusal(buffer, 0, read.refusal);
-    }
-    let policy = read.policy;
-    let queries = read.queries;
-    let mut whole = [0u8; LONGEST_FILE];
-    let written = writer::write(policy, queries, &mut whole);
-    match written {
-        Written::Refused(n) => text::refusal(buffer, 0, n),
-        Written::Length(n) => text::put(buffer, 0, &whole[..n]),
+impl Text for LevelsOf<'_> {
+    ghost text = { λ f. levels_text f.0.now };
+
+    fn put(&self, pen: &mut Pen<'_>) {
+        let draft = reader::draft(self.0);
+        if draft.refusal != 0 {
+            return Refused(draft.refusal).put(pen);
+        }
+        let found = engine::levels(draft.policy);
+        if found.refusal != 0 {
+            return Refused(found.refusal).put(pen);
+        }
+        let count = (draft.policy.decisions as usize).min(MOST_DECISIONS);
+        pen.lines(b"level", &found.level[..count]);
     }
 }
 
-// Puts the file whose query has the most slim sets.
-fn put_longest(buffer: &mut [u8]) -> usize
-    ensures { Puts buffer.old 0 longest_text buffer.new result }
-{
-    let policy = threshold::policy();
-    let queries = threshold::queries();
-    records::put_file(buffer, policy, queries)
+// What the writer makes of a file's record, or the refusal. The reader asks questions 1 to 4, and the writer 5 and 6.
+#[derive(Drop)]
+struct RewriteOf<'a>(&'a [u8]);
+
+impl Text for RewriteOf<'_> {
+    ghost text = { λ f. rewrite_text f.0.now };
+
+    fn put(&self, pen: &mut Pen<'_>) {
+        let read = reader::draft(self.0);
+        if read.refusal != 0 {
+            return Refused(read.refusal).put(pen);
+        }
+        let mut whole = [0u8; LONGEST_FILE];
+        match writer::write(read.policy, read.queries, &mut whole) {
+            Err(refusal) => refusal.put(pen),
+            Ok(n) => pen.put(&whole[..n]),
+        }
+    }
 }
 
 // The one text of `levels` for a file.
-pub fn levels(file: &[u8], i: usize, buffer: &mut [u8]) -> Printed
+pub fn levels(file: &[u8], i: usize, buffer: &mut [u8]) -> Option<usize>
     ensures value { result ≡ handed_out (levels_texts file.now) i (length buffer.old) }
     ensures buffer_after { buffer.new ≡ held_after (levels_texts file.now) i buffer.old }
     ensures hands { Hands (levels_texts file.now) i buffer.old buffer.new result }
 {
-    if i != 0 {
-        return Printed::Nothing;
-    }
-    Printed::Length(put_levels(buffer, file))
+    text::only(&LevelsOf(file), i, buffer)
 }
 
 // The one text of `rewrite` for a file.
-pub fn rewrite(file: &[u8], i: usize, buffer: &mut [u8]) -> Printed
+pub fn rewrite(file: &[u8], i: usize, buffer: &mut [u8]) -> Option<usize>
     ensures value { result ≡ handed_out (rewrite_texts file.now) i (length buffer.old) }
     ensures buffer_after { buffer.new ≡ held_after (rewrite_texts file.now) i buffer.old }
     ensures hands { Hands (rewrite_texts file.now) i buffer.old buffer.new result }
 {
-    if i != 0 {
-        return Printed::Nothing;
-    }
-    Printed::Length(put_rewritten(buffer, file))
+    text::only(&RewriteOf(file), i, buffer)
 }
 
-// The one text of `longest`.
-pub fn longest(i: usize, buffer: &mut [u8]) -> Printed
+// The one text of `longest`: the file whose query has the most slim sets.
+#[tactic(auto, unfolding(crate::specs::Texts::longest_text))]
+pub fn longest(i: usize, buffer: &mut [u8]) -> Option<usize>
     ensures value { result ≡ handed_out longest_texts i (length buffer.old) }
     ensures buffer_after { buffer.new ≡ held_after longest_texts i buffer.old }
     ensures hands { Hands longest_texts i buffer.old buffer.new result }
 {
-    if i != 0 {
-        return Printed::Nothing;
-    }
-    Printed::Length(put_longest(buffer))
+    let policy = threshold::policy();
+    let queries = threshold::queries();
+    let file = File {
+        policy: &policy,
+        queries: &queries,
+    };
+    text::only(&file, i, buffer)
 }

@@ -1,181 +1,143 @@
 // What each call of the engine returns, written as text with no line end.
-ghost use Rattle.std.specs.Prelude.{◌≤◌, ◌≡◌, length};
+ghost use Rattle.std.specs.Prelude.{◌≡◌, length};
 ghost use Rattle.engine.specs.Sets.{most_slim};
 
-use crate::out::{entry, keyed, long_entry, text};
-use engine::{Answer, Listing, MOST_SLIM, Verdict};
-use policy::{MOST_DECISIONS, Policy, Query};
+use engine::MOST_SLIM;
+use policy::{Policy, Query};
+use probing::{keyed, text};
+use std::array;
 
-// Writes what judge returns.
-pub(crate) fn judge(policy: Policy, query: Query, offered: u16) {
-    let verdict = engine::judge(policy, query, offered);
-    match verdict {
-        Verdict::Refused(n) => keyed(b"refused=", n as u32),
-        Verdict::Judged(judgement) => {
-            if judgement.enough {
-                text(b"enough=1");
-            } else {
-                text(b"enough=0");
-            }
-            keyed(b" cost=", judgement.cost);
+// A query put to a policy.
+#[derive(Clone, Copy)]
+pub(crate) struct Asked<'a> {
+    pub(crate) policy: &'a Policy,
+    pub(crate) query: Query,
+}
+
+// Writes numbers with a comma between each two.
+fn numbers<N: Copy + Into<u64>>(numbers: &[N]) {
+    for (i, n) in numbers.iter().enumerate() {
+        if i != 0 {
+            text(b",");
         }
+        keyed(b"", *n);
     }
 }
 
-// Writes the entries below the count.
-fn below(at: [u8; MOST_DECISIONS], count: usize) {
-    for i in 0..MOST_DECISIONS {
-        if i < count {
-            entry(i, at[i] as u16);
-        }
-    }
+// Writes the entries below the count, and how many of the others are not 0.
+fn counted<N: Copy + Into<u64>>(entries: &[N], count: u8) {
+    let (below, past) = entries.split_at((count as usize).min(entries.len()));
+    numbers(below);
+    let tail = past.iter().filter(|n| (**n).into() != 0).count();
+    keyed(b" tail=", tail as u64);
 }
 
-// The number of entries at or past the count that are not 0.
-fn tail(rules: [u8; MOST_DECISIONS], count: usize) -> u32 {
-    let mut n = 0;
-    for i in count..MOST_DECISIONS {
-        if rules[i] != 0 {
-            n += 1;
-        }
-    }
-    n
-}
-
-// Writes what fire returns.
-pub(crate) fn fire(policy: Policy, query: Query, offered: u16) {
-    let firing = engine::fire(policy, query, offered);
-    let rules = firing.rules;
-    let count = firing.count as usize;
-    keyed(b"refusal=", firing.refusal as u32);
-    keyed(b" count=", firing.count as u32);
-    text(b" rules=");
-    below(rules, count);
-    keyed(b" tail=", tail(rules, count));
+// The number of the question that check answers no, or 0.
+pub(crate) fn check(policy: &Policy) -> u8 {
+    engine::check(*policy).err().map_or(0, u8::from)
 }
 
 // Writes what levels returns.
-pub(crate) fn levels(policy: Policy) {
-    let found = engine::levels(policy);
-    let level = found.level;
-    keyed(b"refusal=", found.refusal as u32);
+pub(crate) fn levels(policy: &Policy) {
+    let found = engine::levels(*policy);
+    keyed(b"refusal=", found.refusal);
     text(b" level=");
-    below(level, MOST_DECISIONS);
-}
-
-// Writes the words below the count.
-fn words_below(word: [u64; MOST_DECISIONS], count: usize) {
-    for d in 0..MOST_DECISIONS {
-        if d < count {
-            long_entry(d, word[d]);
-        }
-    }
-}
-
-// The number of words at or past the count that are not 0.
-fn words_past(word: [u64; MOST_DECISIONS], count: usize) -> u32 {
-    let mut n = 0;
-    for d in count..MOST_DECISIONS {
-        if word[d] != 0 {
-            n += 1;
-        }
-    }
-    n
-}
-
-// Writes what words returns.
-pub(crate) fn words(policy: Policy, query: Query, w: u16) {
-    let found = engine::words(policy, query, w);
-    let word = found.word;
-    let count = policy.decisions as usize;
-    keyed(b"refusal=", found.refusal as u32);
-    text(b" word=");
-    words_below(word, count);
-    keyed(b" tail=", words_past(word, count));
+    numbers(&found.level);
 }
 
 // The number so far, mixed with each word.
-fn mixed(n: u64, word: [u64; MOST_DECISIONS]) -> u64 {
+fn mixed(n: u64, words: &[u64]) -> u64 {
     let mut mix = n;
-    for d in 0..MOST_DECISIONS {
-        mix = mix ^ word[d];
-        mix = mix ^ (mix << 13);
-        mix = mix ^ (mix >> 7);
-        mix = mix ^ (mix << 17);
+    for word in words {
+        mix ^= *word;
+        mix ^= mix << 13;
+        mix ^= mix >> 7;
+        mix ^= mix << 17;
     }
     mix
 }
 
-// A number made from the words of every w.
-pub(crate) fn digest(policy: Policy, query: Query) -> u64 {
-    let mut n = 0;
-    for w in 0..1024 {
-        let found = engine::words(policy, query, w);
-        let word = found.word;
-        n = mixed(n, word);
-    }
-    n
-}
-
-// Writes what choose returns, and hands back the number of slim sets in it.
-pub(crate) fn choose(policy: Policy, query: Query) -> u32 {
-    let answer = engine::choose(policy, query);
-    match answer {
-        Answer::Refused(n) => {
-            keyed(b"refused=", n as u32);
-            0
-        }
-        Answer::None => {
-            text(b"none");
-            0
-        }
-        Answer::Chosen(choice) => {
-            keyed(b"mask=", choice.mask as u32);
-            keyed(b" keep=", choice.keep as u32);
-            keyed(b" cost=", choice.cost);
-            keyed(b" slim=", choice.slim);
-            choice.slim
-        }
-    }
-}
-
 // Places of which place i holds 50000 + i.
-fn filled() -> [u16; MOST_SLIM]
+pub(crate) fn places() -> [u16; MOST_SLIM]
     ensures { most_slim ≡ length result }
 {
-    let mut places = [0u16; MOST_SLIM];
-    let mut n = 50000;
-    for i in 0..MOST_SLIM {
-        places[i] = n;
-        n += 1;
-    }
-    places
+    array::from_fn(|i| 50000 + i as u16)
 }
 
-// Writes the entries of a list.
-fn entries(places: &[u16]) {
-    let mut i = 0;
-    while i < places.len() {
-        entry(i, places[i]);
-        i += 1;
+impl Asked<'_> {
+    // Another query put to the policy.
+    pub(crate) fn with(&self, query: Query) -> Asked<'_> {
+        Asked {
+            policy: self.policy,
+            query,
+        }
     }
-}
 
-// Writes what list returns, and the places lent to it.
-fn listed(policy: Policy, query: Query, places: &mut [u16]) {
-    let listing = engine::list(policy, query, places);
-    match listing {
-        Listing::Refused(n) => keyed(b"refused=", n as u32),
-        Listing::Listed(n) => keyed(b"count=", n),
+    // Writes what judge returns.
+    pub(crate) fn judge(&self, offered: u16) {
+        match engine::judge(*self.policy, self.query, offered) {
+            Err(refusal) => keyed(b"refused=", u8::from(refusal)),
+            Ok(judgement) => {
+                keyed(b"enough=", judgement.enough);
+                keyed(b" cost=", judgement.cost);
+            }
+        }
     }
-    text(b" places=");
-    entries(places);
-}
 
-// Writes what list returns for a list of so many places, and these places.
-pub(crate) fn list(policy: Policy, query: Query, length: usize)
-    requires { length ≤ most_slim }
-{
-    let mut places = filled();
-    listed(policy, query, &mut places[..length]);
+    // Writes what fire returns.
+    pub(crate) fn fire(&self, offered: u16) {
+        let firing = engine::fire(*self.policy, self.query, offered);
+        keyed(b"refusal=", firing.refusal);
+        keyed(b" count=", firing.count);
+        text(b" rules=");
+        counted(&firing.rules, firing.count);
+    }
+
+    // Writes what words returns.
+    pub(crate) fn words(&self, w: u16) {
+        let found = engine::words(*self.policy, self.query, w);
+        keyed(b"refusal=", found.refusal);
+        text(b" word=");
+        counted(&found.word, self.policy.decisions);
+    }
+
+    // A number made from the words of every w.
+    pub(crate) fn digest(&self) -> u64 {
+        let mut n = 0;
+        for w in 0..1024 {
+            n = mixed(n, &engine::words(*self.policy, self.query, w).word);
+        }
+        n
+    }
+
+    // Writes what choose returns, and hands back the number of slim sets in it.
+    pub(crate) fn choose(&self) -> u32 {
+        match engine::choose(*self.policy, self.query) {
+            Err(refusal) => {
+                keyed(b"refused=", u8::from(refusal));
+                0
+            }
+            Ok(None) => {
+                text(b"none");
+                0
+            }
+            Ok(Some(choice)) => {
+                keyed(b"mask=", choice.mask);
+                keyed(b" keep=", choice.keep);
+                keyed(b" cost=", choice.cost);
+                keyed(b" slim=", choice.slim);
+                choice.slim
+            }
+        }
+    }
+
+    // Writes what list returns, and the places lent to it.
+    pub(crate) fn list(&self, places: &mut [u16]) {
+        match engine::list(*self.policy, self.query, places) {
+            Err(refusal) => keyed(b"refused=", u8::from(refusal)),
+            Ok(n) => keyed(b"count=", n),
+        }
+        text(b" places=");
+        numbers(places);
+    }
 }

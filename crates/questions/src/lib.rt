@@ -2,150 +2,136 @@
 #![tactic(auto)]
 
 ghost use Rattle.std.specs.Prelude.{◌≡◌};
-ghost use Rattle.base.specs.Every.{every};
-ghost use Rattle.policy.specs.Record.{rules_of};
-ghost use Rattle.policy.specs.Questions.{counts_in_range, rule_in_range, others_in_range, in_range};
+ghost use Rattle.std.specs.List.{list_all};
+ghost use Rattle.policy.specs.Record.{actions_of, asked_of, levels_of, rules_of};
+ghost use Rattle.policy.specs.Questions.{action_in_range, counts_in_range, level_in_range, query_in_range, rule_in_range, others_in_range, in_range};
 ghost use Rattle.policy.specs.Questions.{queries_in_range, lists_rise, levels_fit, weights_fit, questions, first_no};
+ghost use Rattle.policy.specs.Refusal.{outcome};
 
-use base::smaller;
-use policy::{MOST_ACTIONS, MOST_DECISIONS, MOST_QUERIES, MOST_RULES, Policy, Queries};
-
-mod actions;
-mod levels;
+use policy::{
+    HIGHEST_LEVEL, MOST_ACTIONS, MOST_DECISIONS, MOST_QUERIES, MOST_RULES, Policy, Queries, Refusal,
+};
 
 // Whether there are 1 to 128 decisions, at most 16 actions and at most 256 rules.
 #[tactic(auto, unfolding(policy::specs::Questions::counts_in_range))]
-fn counts_in_range(decisions: u8, actions: u8, rules: u16) -> bool
-    ensures { result ≡ counts_in_range decisions actions rules }
+fn counts_in_range(policy: &Policy) -> bool
+    ensures { result ≡ counts_in_range policy.now.decisions policy.now.actions policy.now.rules }
 {
-    if decisions < 1 {
-        return false;
-    }
-    if decisions as usize > MOST_DECISIONS {
-        return false;
-    }
-    if actions as usize > MOST_ACTIONS {
-        return false;
-    }
-    rules as usize <= MOST_RULES
+    policy.decisions >= 1
+        && policy.decisions as usize <= MOST_DECISIONS
+        && policy.actions as usize <= MOST_ACTIONS
+        && policy.rules as usize <= MOST_RULES
+}
+
+// Whether each action has a weight, and an also mask of the actions there are.
+fn actions_in_range(policy: &Policy) -> bool
+    ensures { result ≡ list_all (λ a. action_in_range policy.now.actions a) (actions_of policy.now) }
+{
+    policy
+        .actions()
+        .iter()
+        .all(|action| action.in_range(policy.actions))
 }
 
 // Whether each number of each rule is in its range.
-fn rules_in_range(policy: Policy) -> bool
-    ensures { result ≡ every (rule_in_range policy.decisions policy.actions) (rules_of policy) }
+fn rules_in_range(policy: &Policy) -> bool
+    ensures { result ≡ list_all (λ r. rule_in_range policy.now.decisions policy.now.actions r) (rules_of policy.now) }
 {
-    let decisions = policy.decisions;
-    let actions = policy.actions;
-    let count = smaller(policy.rules as usize, MOST_RULES);
-    let mut k = 0;
-    while k < count {
-        let rule = policy.rule[k];
-        if !policy::rules::in_range(rule, decisions, actions) {
-            return false;
-        }
-        k += 1;
-    }
-    true
+    policy
+        .rules()
+        .iter()
+        .all(|rule| rule.in_range(policy.decisions, policy.actions))
 }
 
 // Question 3 with the levels left out: is each other number in its range?
-pub fn others_in_range(policy: Policy) -> bool
-    ensures { result ≡ others_in_range policy }
+#[tactic(auto, unfolding(policy::specs::Questions::others_in_range))]
+pub fn others_in_range(policy: &Policy) -> bool
+    ensures { result ≡ others_in_range policy.now }
 {
-    let action = policy.action;
-    if !counts_in_range(policy.decisions, policy.actions, policy.rules) {
-        return false;
-    }
-    actions::in_range(action, policy.actions) && rules_in_range(policy)
+    counts_in_range(policy) && actions_in_range(policy) && rules_in_range(policy)
+}
+
+// Whether each level is at most 15.
+#[tactic(auto, unfolding(policy::specs::Questions::level_in_range))]
+fn levels_in_range(policy: &Policy) -> bool
+    ensures { result ≡ list_all (λ l. level_in_range l) (levels_of policy.now) }
+{
+    policy.levels().iter().all(|level| *level <= HIGHEST_LEVEL)
 }
 
 // Question 3: is each number in its range?
-pub fn in_range(policy: Policy) -> bool
-    ensures { result ≡ in_range policy }
+#[tactic(auto, unfolding(policy::specs::Questions::in_range))]
+pub fn in_range(policy: &Policy) -> bool
+    ensures { result ≡ in_range policy.now }
 {
-    let level = policy.level;
-    others_in_range(policy) && levels::in_range(level, policy.decisions)
+    others_in_range(policy) && levels_in_range(policy)
+}
+
+// Whether each query is in range.
+#[tactic(auto, unfolding(policy::specs::Questions::query_in_range))]
+fn each_in_range(policy: &Policy, queries: &Queries) -> bool
+    ensures { result ≡ list_all (λ q. query_in_range policy.now q) (asked_of queries.now) }
+{
+    queries
+        .asked()
+        .iter()
+        .all(|query| query.in_range(policy.decisions, policy.actions))
 }
 
 // Question 3 of the policy's queries: are they at most 64, and each in range?
 #[tactic(auto, unfolding(policy::specs::Questions::queries_in_range))]
-pub fn queries_in_range(policy: Policy, queries: Queries) -> bool
-    ensures { result ≡ queries_in_range policy queries }
+pub fn queries_in_range(policy: &Policy, queries: &Queries) -> bool
+    ensures { result ≡ queries_in_range policy.now queries.now }
 {
-    let count = queries.count as usize;
-    if count > MOST_QUERIES {
-        return false;
-    }
-    let decisions = policy.decisions;
-    let actions = policy.actions;
-    let query = queries.at;
-    let mut i = 0;
-    while i < count {
-        let one = query[i];
-        if !policy::query_in_range(one, decisions, actions) {
-            return false;
-        }
-        i += 1;
-    }
-    true
+    queries.count as usize <= MOST_QUERIES && each_in_range(policy, queries)
 }
 
 // Question 4: does each list rise strictly?
-pub fn lists_rise(policy: Policy) -> bool
-    ensures { result ≡ lists_rise policy }
+#[tactic(auto, unfolding(policy::specs::Questions::lists_rise))]
+pub fn lists_rise(policy: &Policy) -> bool
+    ensures { result ≡ lists_rise policy.now }
 {
-    let count = smaller(policy.rules as usize, MOST_RULES);
-    let mut k = 0;
-    while k < count {
-        let rule = policy.rule[k];
-        if !policy::rules::rise(rule) {
-            return false;
-        }
-        k += 1;
-    }
-    true
+    policy.rules().iter().all(|rule| rule.rises())
 }
 
 // Question 5: has each if decision a level at most its head's, and each unless decision a lower one?
-pub fn levels_fit(policy: Policy) -> bool
-    ensures { result ≡ levels_fit policy }
+#[tactic(auto, unfolding(policy::specs::Questions::levels_fit))]
+pub fn levels_fit(policy: &Policy) -> bool
+    ensures { result ≡ levels_fit policy.now }
 {
-    let level = policy.level;
-    let count = smaller(policy.rules as usize, MOST_RULES);
-    let mut k = 0;
-    while k < count {
-        let rule = policy.rule[k];
-        if !policy::levels::fit(rule, level) {
-            return false;
-        }
-        k += 1;
-    }
-    true
+    policy
+        .rules()
+        .iter()
+        .all(|rule| rule.levels_fit(&policy.level))
 }
 
 // Question 6: has each action a greater weight than each action in its also mask?
-pub fn weights_fit(policy: Policy) -> bool
-    ensures { result ≡ weights_fit policy }
+#[tactic(auto, unfolding(policy::specs::Questions::weights_fit))]
+pub fn weights_fit(policy: &Policy) -> bool
+    ensures { result ≡ weights_fit policy.now }
 {
-    let action = policy.action;
-    actions::fit(action, policy.actions)
+    policy
+        .actions()
+        .iter()
+        .all(|action| action.outweighs(policy))
 }
 
-// The number of the first of questions 3 to 6 that is answered no, or 0: `rest` answers 3 for what else is given.
-pub fn refusal(policy: Policy, rest: bool) -> u8
-    ensures { result ≡ first_no (questions policy rest) }
+// Puts questions 3 to 6 to the policy: `rest` answers 3 for what else is given.
+#[tactic(auto, unfolding(policy::specs::Questions::first_no, policy::specs::Questions::questions, policy::specs::Refusal::outcome, policy::specs::Refusal::refusal_of))]
+pub fn ask(policy: &Policy, rest: bool) -> Result<(), Refusal>
+    ensures { result ≡ outcome (first_no (questions policy.now rest)) }
 {
-    if !in_range(policy) {
-        return 3;
-    }
-    if !rest {
-        return 3;
+    if !in_range(policy) || !rest {
+        return Err(Refusal::OutOfRange);
     }
     if !lists_rise(policy) {
-        return 4;
+        return Err(Refusal::NotRising);
     }
     if !levels_fit(policy) {
-        return 5;
+        return Err(Refusal::LevelsUnfit);
     }
-    if weights_fit(policy) { 0 } else { 6 }
+    if !weights_fit(policy) {
+        return Err(Refusal::WeightsUnfit);
+    }
+    Ok(())
 }

@@ -2,42 +2,44 @@
 // printed for them, text by text.
 #![tactic(auto)]
 
-ghost use Rattle.std.specs.Prelude.{◌≡◌, length};
-ghost use Rattle.pairs.specs.Texts.{longest_prices, reprice_texts};
-ghost use Rattle.text.specs.Handing.{text_at};
-
 use format::MOST_BYTES;
 use pairs::LONGEST_PRICES;
-use text::Printed;
+use text::Texts;
 
-// Writes text i of the files, and answers whether all of it was taken.
-fn write(text: &[u8], before: &[u8], after: &[u8], i: usize) -> bool
-    requires { text.now ≡ text_at (reprice_texts before.now after.now) i }
-{
-    io::write_all(1, text)
+// What is printed for two files.
+#[derive(Drop)]
+struct Printed<'a> {
+    before: &'a [u8],
+    after: &'a [u8],
 }
 
-// Writes the texts of the files in turn until none is left, or one was not taken.
-fn print(before: &[u8], after: &[u8], buffer: &mut [u8]) -> bool
-    requires { length buffer.old ≡ longest_prices }
-{
-    let mut i = 0;
-    while let Printed::Length(end) = pairs::reprice(before, after, i, buffer) {
-        if !write(&buffer[..end], before, after, i) {
-            return false;
-        }
-        i += 1;
+impl Texts<LONGEST_PRICES> for Printed<'_> {
+    ghost use Rattle.std.proofs.Common.{lit<};
+    ghost use Rattle.pairs.specs.Texts.{reprice_texts};
+    ghost use Rattle.pairs.specs.Laws.Fits.{reprice_fits, few_texts};
+
+    ghost texts = { λ p. reprice_texts p.before.now p.after.now };
+
+    fn text(&self, i: usize, buffer: &mut [u8]) -> Option<usize> {
+        pairs::reprice(self.before, self.after, i, buffer)
     }
-    true
+
+    ghost small = { lit< tt };
+
+    ghost fit = { λ p. reprice_fits p.before.now p.after.now };
+
+    ghost few = { λ p. few_texts p.before.now p.after.now };
 }
 
 fn main() {
     let mut first = [0u8; MOST_BYTES + 1];
     let mut second = [0u8; MOST_BYTES + 1];
-    let mut buffer = [0u8; LONGEST_PRICES];
     let m = io::read_full(0, &mut first);
     let n = io::read_full(3, &mut second);
-    if !print(&first[..m], &second[..n], &mut buffer) {
+    if !text::print(&Printed {
+        before: &first[..m],
+        after: &second[..n],
+    }) {
         io::write_all(2, b"reprice: the output could not be written\n");
     }
 }

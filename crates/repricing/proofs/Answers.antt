@@ -1,32 +1,42 @@
 -- What the calls answer, where they are refused and where they are not.
-use Prim.Native.Nat.{ℕ}
-use mathlib.Core.Bool.{true, false, and-true}
-use mathlib.Core.Path.{◌≡◌, sym, ap, ◌∙◌, subst}
-use lib.ListN.{replicate}
-use Rattle.base.specs.Every.{every}
+use Rattle.std.specs.Prelude.{true, false, ◌≡◌, replicate, Some, None, Ok, Err}
+use Rattle.std.specs.Option.{option_map, option_flatten}
+use Rattle.std.specs.Result.{result_ok}
+use Rattle.std.proofs.Common.{refl, sym, ap, ◌∙◌, subst}
+use Rattle.std.proofs.Math.Bool.{and-true}
 use Rattle.policy.specs.declared.Policy.{Policy}
 use Rattle.policy.specs.declared.Query.{Query}
+use Rattle.policy.specs.declared.refusal.Refusal.{Refusal}
 use Rattle.policy.specs.Questions.{first_no, questions, query_in_range, queries_in_range, query_questions, check_record_of}
-use Rattle.engine.specs.declared.Answer.{Answer}
-use Rattle.engine.specs.Calls.{choose_of}
-use Rattle.engine.specs.Laws.Refusals.{answered, refused}
+use Rattle.policy.specs.Refusal.{outcome}
+use Rattle.policy.specs.Laws.Refusals.{outcome_ok, outcome_refuses}
+use Rattle.engine.specs.declared.Choice.{Choice}
+use Rattle.engine.specs.Calls.{Answer, choose_of}
+use Rattle.engine.specs.Laws.Refusals.{answered}
 use Rattle.alike.specs.Comparable.{comparable}
 use Rattle.repricing.specs.declared.Prices.{Prices}
-use Rattle.repricing.specs.declared.Repriced.{Repriced}
-use Rattle.repricing.specs.declared.Repriced.TheVariants.{Refused, NotComparable, Compared}
-use Rattle.repricing.specs.Call.{Pays, Reports, price_in, price_of, prices, reprice_of}
+use Rattle.repricing.specs.Call.{Price, Repriced, Pays, Reports, price_in, price_of, prices, reprice_of}
 use Rattle.repricing.specs.Laws.Means.{price_means, reprice_means}
 
 -- the questions of a record with one query are those of the policy with it
 pub one_query : (p : Policy) (q : Query) → check_record_of p (record { count = 1; at = replicate 64 q }) ≡ first_no (query_questions p q)
-unfolding check_record_of queries_in_range every
+unfolding check_record_of queries_in_range
 one_query p q = ap (λ b. first_no (questions p b)) (and-true (query_in_range p q))
 
 -- the cost in what Choose answers
-pub priced : (p : Policy) (q : Query) {a : Answer} → a ≡ choose_of p q
-    → record { value : price_in a ≡ price_of p q; pays : Pays p q (price_in a) }
+cost_in : (a : Answer) → option_map (λ (c : Choice). c.cost) (option_flatten (result_ok a)) ≡ price_in a
+unfolding price_in
+cost_in (Err e) = refl
+cost_in (Ok None) = refl
+cost_in (Ok (Some c)) = refl
+
+pub priced : (p : Policy) (q : Query) {a : Answer} {price : Price} → a ≡ choose_of p q
+    → price ≡ option_map (λ (c : Choice). c.cost) (option_flatten (result_ok a))
+    → record { value : price ≡ price_of p q; pays : Pays p q price }
 unfolding price_of
-priced p q e = let same = ap price_in e in record { value = same; pays = subst (Pays p q) (sym same) (price_means p q) }
+priced p q {a} e is =
+    let same = is ∙ cost_in a ∙ ap price_in e in
+    record { value = same; pays = subst (Pays p q) (sym same) (price_means p q) }
 
 module _ (p p' : Policy) (q : Query) where
   -- what the contract of Reprice says of its answer
@@ -38,22 +48,22 @@ module _ (p p' : Policy) (q : Query) where
   means e = record { value = e; reports = subst (Reports p p' q) (sym e) (reprice_means p p' q) }
 
   -- the first policy is refused
-  pub first_refused : {n : ℕ} → n ≡ first_no (query_questions p q) → ¬ (n ≡ 0) → Told (Refused n)
+  pub first_refused : {e : Refusal} → Err e ≡ outcome (first_no (query_questions p q)) → Told (Err e)
   unfolding reprice_of
-  first_refused {n} e ne = means (rw (← e) (sym (refused n _ _ ne)))
+  first_refused e = means (outcome_refuses _ _ e)
 
-  module _ (ok : first_no (query_questions p q) ≡ 0) where
+  module _ {u : Unit {0}} (ok : Ok u ≡ outcome (first_no (query_questions p q))) where
     -- the second is
-    pub second_refused : {n : ℕ} → n ≡ first_no (query_questions p' q) → ¬ (n ≡ 0) → Told (Refused n)
+    pub second_refused : {e : Refusal} → Err e ≡ outcome (first_no (query_questions p' q)) → Told (Err e)
     unfolding reprice_of
-    second_refused {n} e ne = means (rw (← e) (sym (answered _ _ _ ok ∙ refused n _ _ ne)))
+    second_refused e = means (outcome_refuses _ _ e ∙ sym (answered _ _ _ (outcome_ok _ ok)))
 
-    module _ (ok' : first_no (query_questions p' q) ≡ 0) where
+    module _ {u' : Unit {0}} (ok' : Ok u' ≡ outcome (first_no (query_questions p' q))) where
       -- both are accepted, and not comparable; or comparable
-      pub not_comparable : comparable p p' ≡ false → Told NotComparable
+      pub not_comparable : comparable p p' ≡ false → Told (Ok None)
       unfolding reprice_of
-      not_comparable e = means (rw e (sym (answered _ _ _ ok ∙ answered _ _ _ ok')))
+      not_comparable e = means (rw e (sym (answered _ _ _ (outcome_ok _ ok) ∙ answered _ _ _ (outcome_ok _ ok'))))
 
-      pub compared : {c : Prices} → comparable p p' ≡ true → c ≡ prices p p' q → Told (Compared c)
+      pub compared : {c : Prices} → comparable p p' ≡ true → c ≡ prices p p' q → Told (Ok (Some c))
       unfolding reprice_of
-      compared e same = means (rw (e, same) (sym (answered _ _ _ ok ∙ answered _ _ _ ok')))
+      compared e same = means (rw (e, same) (sym (answered _ _ _ (outcome_ok _ ok) ∙ answered _ _ _ (outcome_ok _ ok'))))

@@ -1,12 +1,11 @@
 -- What a repriced action can do (document 02, F-5): where the weight of one action rises by k, none turns into none, a choice into a
 -- choice, the least cost rises by 0 to k, and the slim sets are the same.
-use Rattle.std.specs.Prelude.{ℕ, ◌+◌, ◌≤◌, List, ◌↔◌, ◌⊎◌, ◌≡◌}
+use Rattle.std.specs.Prelude.{ℕ, ◌+◌, ◌≤◌, List, ◌↔◌, ◌⊎◌, ◌≡◌, Some, None, Ok}
 use Rattle.policy.specs.declared.Policy.{Policy}
 use Rattle.policy.specs.declared.Query.{Query}
 use Rattle.policy.specs.Record.{weight_of, Agree}
 use Rattle.policy.specs.Questions.{Accepted}
 use Rattle.engine.specs.declared.Choice.{Choice}
-use Rattle.engine.specs.declared.Answer.TheVariants.{None, Chosen}
 use Rattle.engine.specs.Sets.{Enough, Slim}
 use Rattle.engine.specs.Calls.{choose_of, list_of, list_after}
 use Rattle.alike.specs.Comparable.{reweighed, Comparable}
@@ -36,10 +35,10 @@ module _ (p p' : Policy) (q : Query) where
   pub record Reprices (k : ℕ) : Type 0 where
     pub sets : SameSets
     -- none turns into none, and only none does
-    pub none : (choose_of p q ≡ None) ↔ (choose_of p' q ≡ None)
+    pub none : (choose_of p q ≡ Ok None) ↔ (choose_of p' q ≡ Ok None)
     -- and so a choice into a choice, whose cost rises by 0 to k: from the first policy to the second, and back
-    pub chosen : (c : Choice) → choose_of p q ≡ Chosen c → (c' : Choice) × (choose_of p' q ≡ Chosen c') × Moves k c c'
-    pub chosen_back : (c' : Choice) → choose_of p' q ≡ Chosen c' → (c : Choice) × (choose_of p q ≡ Chosen c) × Moves k c c'
+    pub chosen : (c : Choice) → choose_of p q ≡ Ok (Some c) → (c' : Choice) × (choose_of p' q ≡ Ok (Some c')) × Moves k c c'
+    pub chosen_back : (c' : Choice) → choose_of p' q ≡ Ok (Some c') → (c : Choice) × (choose_of p q ≡ Ok (Some c)) × Moves k c c'
 
 -- the request whole (`repriced_action` in Laws)
 pub record RepricedAction : Type 0 where

@@ -3,48 +3,32 @@
 
 ghost use Rattle.std.specs.Prelude.{◌≡◌};
 ghost use Rattle.policy.specs.Questions.{first_no, query_questions};
+ghost use Rattle.policy.specs.Refusal.{outcome};
 ghost use Rattle.repricing.specs.Call.{price_of, reprice_of, Pays, Reports};
 
-use engine::Answer;
-use policy::{MOST_QUERIES, Policy, Queries, Query};
+use policy::{MOST_QUERIES, Policy, Queries, Query, Refusal};
 
-// The least cost of a set that clears, or none where no set does.
-#[derive(Clone, Copy)]
-pub enum Price {
-    None,
-    Cost(u32),
-}
-
-// The least costs by the first policy and by the second.
+// The least costs by the first policy and by the second; none where no set clears.
 #[derive(Clone, Copy)]
 pub struct Prices {
-    pub before: Price,
-    pub after: Price,
-}
-
-// What reprice answers: the number of the question answered no, that the policies are not comparable, or both costs.
-#[derive(Clone, Copy)]
-pub enum Repriced {
-    Refused(u8),
-    NotComparable,
-    Compared(Prices),
+    pub before: Option<u32>,
+    pub after: Option<u32>,
 }
 
 // The least cost that clears the query; none where no set does, or the query is refused.
-pub fn least_cost(policy: Policy, query: Query) -> Price
+pub fn least_cost(policy: Policy, query: Query) -> Option<u32>
     ensures value { result ≡ price_of policy query }
     ensures pays { Pays policy query result }
 {
-    match engine::choose(policy, query) {
-        Answer::Refused(_) => Price::None,
-        Answer::None => Price::None,
-        Answer::Chosen(choice) => Price::Cost(choice.cost),
-    }
+    engine::choose(policy, query)
+        .ok()
+        .flatten()
+        .map(|choice| choice.cost)
 }
 
-// The number of the first of questions 3 to 6 that the policy with the query answers no, or 0.
-fn refusal(policy: Policy, query: Query) -> u8
-    ensures { result ≡ first_no (query_questions policy query) }
+// Puts questions 3 to 6 to the policy with the query.
+fn check(policy: Policy, query: Query) -> Result<(), Refusal>
+    ensures { result ≡ outcome (first_no (query_questions policy query)) }
 {
     let one = Queries {
         count: 1,
@@ -53,24 +37,19 @@ fn refusal(policy: Policy, query: Query) -> u8
     engine::check_record(policy, one)
 }
 
-// The effect of a change of one weight on what the query costs.
-pub fn reprice(before: Policy, after: Policy, query: Query) -> Repriced
+// The effect of a change of one weight on what the query costs: the refusal, or both costs. Policies that are not comparable are
+// no refusal: of them the answer is none.
+pub fn reprice(before: Policy, after: Policy, query: Query) -> Result<Option<Prices>, Refusal>
     ensures value { result ≡ reprice_of before after query }
     ensures reports { Reports before after query result }
 {
-    let refused = refusal(before, query);
-    if refused != 0 {
-        return Repriced::Refused(refused);
-    }
-    let refused = refusal(after, query);
-    if refused != 0 {
-        return Repriced::Refused(refused);
-    }
+    check(before, query)?;
+    check(after, query)?;
     if !alike::comparable(before, after) {
-        return Repriced::NotComparable;
+        return Ok(None);
     }
-    Repriced::Compared(Prices {
+    Ok(Some(Prices {
         before: least_cost(before, query),
         after: least_cost(after, query),
-    })
+    }))
 }

@@ -1,27 +1,19 @@
 -- The texts of `clear` for a file by what the reader returns.
-use Prim.Native.Nat.{ℕ, ◌≤◌, ◌<◌, min}
+use Prim.Native.Nat.{ℕ}
 use mathlib.Core.List.{List, [], ◌∷◌, map}
 use mathlib.Core.Path.{◌≡◌, sym, ◌∙◌, ap, subst}
-use lib.ListN.{length, get_or, take}
-use Rattle.policy.specs.Record.{zero_query}
+use lib.ListN.{take}
+use Rattle.std.proofs.Common.{Option, Some, None}
+use Rattle.policy.specs.declared.Query.{Query}
+use Rattle.policy.specs.Record.{asked_of}
 use Rattle.engine.specs.Laws.Refusals.{answered, refused}
+use Rattle.std.specs.Slice.{IsItemAt}
+use Rattle.std.specs.Borrow.{Bor}
 use Rattle.text.specs.Put.{Puts, refused_text}
 use Rattle.reader.specs.declared.Reading.{Reading}
 use Rattle.reader.specs.File.{read_of}
 use Rattle.results.specs.Printed.{result_text, reading_texts, clear_texts}
-use Rattle.text.specs.Handing.{handed_out, held_after, Hands}
-use Rattle.text.specs.declared.Printed.{Printed}
-use Rattle.text.specs.declared.Printed.TheVariants.{Length, Nothing}
-use Rattle.text.specs.Laws.Handed.{Promised, only_put, only_once, each_over, each_put}
-
--- the three promises of `clear`
-abbrev Prints : List ℕ → ℕ → List ℕ → List ℕ → Printed → Type 0
-Prints s i before after r =
-    record {
-      value : r ≡ handed_out (clear_texts s) i (length before);
-      buffer_after : after ≡ held_after (clear_texts s) i before;
-      hands : Hands (clear_texts s) i before after r;
-    }
+use Rattle.text.specs.Laws.Handed.{Promised, each_over, each_put}
 
 module _ (s : List ℕ) {r : Reading} (read : r ≡ read_of s) where
   refused_texts : ¬ (r.refusal ≡ 0) → refused_text r.refusal ∷ [] ≡ clear_texts s
@@ -34,29 +26,21 @@ module _ (s : List ℕ) {r : Reading} (read : r ≡ read_of s) where
 
   module _ (i : ℕ) (before : List ℕ) where
     -- what is promised of other texts that are these
-    promised : {texts : List (List ℕ)} → texts ≡ clear_texts s → (after : List ℕ) (p : Printed)
-        → Promised texts i before after p → Prints s i before after p
-    promised e after p h =
-        let k = subst (λ (t : List (List ℕ)). Promised t i before after p) e h in
-        record { value = k.0; buffer_after = k.1.0; hands = k.1.1 }
+    promised : {texts : List (List ℕ)} → texts ≡ clear_texts s → (after : List ℕ) (p : Option ℕ)
+        → Promised texts i before after p → Promised (clear_texts s) i before after p
+    promised e after p h = subst (λ (t : List (List ℕ)). Promised t i before after p) e h
 
     -- the file is refused
-    pub refused_once : ¬ (r.refusal ≡ 0) → ¬ (i ≡ 0) → Prints s i before before Nothing
-    refused_once some other = promised (refused_texts some) before Nothing (only_once (refused_text r.refusal) i before other)
+    pub refused_alone : {after : List ℕ} {p : Option ℕ} → ¬ (r.refusal ≡ 0) → Promised (refused_text r.refusal ∷ []) i before after p
+        → Promised (clear_texts s) i before after p
+    refused_alone {after} {p} some = promised (refused_texts some) after p
 
-    pub refused_put : {after : List ℕ} {n : ℕ} → ¬ (r.refusal ≡ 0) → i ≡ 0 → Puts before 0 (refused_text r.refusal) after n
-        → Prints s i before after (Length n)
-    refused_put {after} {n} some first put =
-        promised (refused_texts some) after (Length n) (only_put (refused_text r.refusal) i before first put)
+    -- or it has queries
+    module _ (none : r.refusal ≡ 0) {qs : List Query} (asked : qs ≡ asked_of r.queries) where
+      pub queries_over : IsItemAt qs i None → Promised (clear_texts s) i before before None
+      queries_over got = promised (query_texts_lem none) before None (each_over (result_text r.policy) asked i before got)
 
-    -- or it has this many queries
-    module _ (none : r.refusal ≡ 0) (long : length r.queries.at ≡ 64) (end : ℕ) (held : end ≡ min r.queries.count 64) where
-      pub queries_over : end ≤ i → Prints s i before before Nothing
-      queries_over over = promised (query_texts_lem none) before Nothing
-          (each_over (result_text r.policy) r.queries.at r.queries.count long held i before over)
-
-      pub query_put : {after : List ℕ} {n : ℕ} → i < end
-          → Puts before 0 (result_text r.policy (get_or r.queries.at i zero_query)) after n
-          → Prints s i before after (Length n)
-      query_put {after} {n} under put = promised (query_texts_lem none) after (Length n)
-          (each_put (result_text r.policy) r.queries.at r.queries.count long held i before zero_query under put)
+      pub query_put : (q : Bor Query) {after : List ℕ} {n : ℕ} → IsItemAt qs i (Some q)
+          → Puts before 0 (result_text r.policy q.now) after n → Promised (clear_texts s) i before after (Some n)
+      query_put q {after} {n} got put =
+          promised (query_texts_lem none) after (Some n) (each_put (result_text r.policy) asked i before q got put)

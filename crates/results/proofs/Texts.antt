@@ -1,38 +1,26 @@
 -- The text of a result is the text of its query.
 use Prim.Native.Nat.{ℕ, zero, suc}
 use mathlib.Core.Path.{◌≡◌, refl, sym, ◌∙◌, ap}
-use mathlib.Core.List.{List, [], ◌++◌, append_assoc}
+use mathlib.Core.List.{List, [], ◌++◌}
 use lib.ListN.{length, take, drop, replicate, length-replicate}
 use lib.Seq.{take-append_seam}
 use Rattle.policy.specs.declared.Policy.{Policy}
 use Rattle.policy.specs.declared.Query.{Query}
 use Rattle.policy.specs.Questions.{first_no}
-use Rattle.engine.specs.declared.Answer.{Answer}
-use Rattle.engine.specs.declared.Answer.TheVariants.{Refused as choose-refused, None, Chosen}
-use Rattle.engine.specs.declared.Choice.{Choice}
+use Rattle.std.proofs.Common.{Some, None, Ok, Err}
+use Rattle.policy.specs.Refusal.{refuse}
 use Rattle.engine.specs.declared.Firing.{Firing}
-use Rattle.engine.specs.declared.Listing.TheVariants.{Refused as list_refused, Listed}
 use Rattle.engine.specs.Sets.{most_slim}
-use Rattle.engine.specs.Calls.{refused_or, slim_sets, list_questions, choose_of, list_of, list_after}
+use Rattle.engine.specs.Calls.{Answer, refused_or, slim_sets, list_questions, choose_of, list_of, list_after}
 use Rattle.format.specs.Text.{ascii, decimal}
-use Rattle.format.specs.Written.{line_of, commas}
+use Rattle.format.specs.Written.{line_of}
 use Rattle.results.specs.declared.QueryResult.{QueryResult}
 use Rattle.results.specs.Laws.Worked.{Worked, ForBest}
 use Rattle.results.specs.Printed.{written, answer_text, sets_listed, rules_fired, result_text}
 
--- the lines of a choice, with the sets listed and the rules fired
-pub choice_lines : (c : Choice) (sets rules : List ℕ)
-    → (line_of (ascii "best") (decimal c.mask)
-    ++ (line_of (ascii "keep") (decimal c.keep)
-    ++ (line_of (ascii "cost") (decimal c.cost) ++ line_of (ascii "slim") (decimal c.slim))))
-    ++ (line_of (ascii "list") (commas sets) ++ line_of (ascii "fired") (commas rules))
-    ≡ answer_text (Chosen c) sets (λ _. rules)
-unfolding answer_text
-choice_lines c sets rules = simp append_assoc
-
 -- the entries of the lent list below the number of those written
 below : (sets before : List ℕ) (n : ℕ)
-    → take (written (refused_or n list_refused (Listed (length sets)))) (refused_or n (λ _. before) (sets ++ drop (length sets) before))
+    → take (written (refused_or n refuse (Ok (length sets)))) (refused_or n (λ _. before) (sets ++ drop (length sets) before))
     ≡ refused_or n (λ _. []) sets
 unfolding written refused_or
 below sets before zero = take-append_seam sets (drop (length sets) before)
@@ -70,9 +58,9 @@ module _ (p : Policy) (q : Query) where
       → answer_text a (take (written r.listing) after) (λ _. take r.firing.count r.firing.rules)
       ≡ answer_text a (sets_listed p q) (rules_fired p q)
   unfolding answer_text
-  lines_by r before after e w (choose-refused n) chosen = refl
-  lines_by r before after e w None chosen = refl
-  lines_by r before after e w (Chosen c) chosen =
+  lines_by r before after e w (Err n) chosen = refl
+  lines_by r before after e w (Ok None) chosen = refl
+  lines_by r before after e w (Ok (Some c)) chosen =
       let b = w.best c chosen in
       rw (listed_same r before after e c.mask b, fired_same r before after c.mask b)
 

@@ -1,13 +1,10 @@
 -- What `clear` prints for a file's bytes: its refusal, or for each query a text, what the calls return for it in lines.
-use Rattle.std.specs.Prelude.{ℕ, List, [], ◌∷◌, ◌++◌, map, take, replicate}
+use Rattle.std.specs.Prelude.{ℕ, List, [], ◌∷◌, ◌++◌, map, take, replicate, Some, None, Ok, Err}
 use Rattle.policy.specs.declared.Policy.{Policy}
 use Rattle.policy.specs.declared.Query.{Query}
-use Rattle.engine.specs.declared.Answer.{Answer}
-use Rattle.engine.specs.declared.Answer.TheVariants.{Refused as choose-refused, None, Chosen}
-use Rattle.engine.specs.declared.Listing.{Listing}
-use Rattle.engine.specs.declared.Listing.TheVariants.{Refused as list_refused, Listed}
+use Rattle.policy.specs.Refusal.{number_of}
 use Rattle.engine.specs.Sets.{most_slim}
-use Rattle.engine.specs.Calls.{refused_or, choose_of, list_of, list_after, fire_of}
+use Rattle.engine.specs.Calls.{Answer, Listing, refused_or, choose_of, list_of, list_after, fire_of}
 use Rattle.format.specs.Text.{ascii, decimal}
 use Rattle.format.specs.Written.{line_of, commas}
 use Rattle.text.specs.Put.{refused_text}
@@ -20,14 +17,14 @@ longest_result = 80000
 
 -- how many sets List wrote
 unfoldable pub written : Listing → ℕ
-written (list_refused n) = 0
-written (Listed n) = n
+written (Err e) = 0
+written (Ok n) = n
 
 -- the lines of an answer, where List wrote these sets and Fire names these rules for a set
 unfoldable pub answer_text : Answer → List ℕ → (ℕ → List ℕ) → List ℕ
-answer_text (choose-refused n) sets rules = refused_text n
-answer_text None sets rules = line_of (ascii "best") (ascii "none")
-answer_text (Chosen c) sets rules =
+answer_text (Err e) sets rules = refused_text (number_of e)
+answer_text (Ok None) sets rules = line_of (ascii "best") (ascii "none")
+answer_text (Ok (Some c)) sets rules =
     line_of (ascii "best") (decimal c.mask)
     ++ (line_of (ascii "keep") (decimal c.keep)
     ++ (line_of (ascii "cost") (decimal c.cost)

@@ -1,40 +1,38 @@
 // The program `rewrite`: reads a file from standard input, and writes the file that the writer makes of its record.
 #![tactic(auto)]
 
-ghost use Rattle.std.specs.Prelude.{◌≡◌, length};
-ghost use Rattle.format.specs.Bounds.{longest_file};
-ghost use Rattle.text.specs.Handing.{text_at};
-ghost use Rattle.printing.specs.Texts.{rewrite_texts};
-
 use format::{LONGEST_FILE, MOST_BYTES};
-use text::Printed;
+use text::Texts;
 
-// Writes text i of the file, and answers whether all of it was taken.
-fn write(text: &[u8], file: &[u8], i: usize) -> bool
-    requires { text.now ≡ text_at (rewrite_texts file.now) i }
-{
-    io::write_all(1, text)
+// What is printed for a file.
+#[derive(Drop)]
+struct Printed<'a> {
+    file: &'a [u8],
 }
 
-// Writes the texts of the file in turn until none is left, or one was not taken.
-fn print(file: &[u8], buffer: &mut [u8]) -> bool
-    requires { length buffer.old ≡ longest_file }
-{
-    let mut i = 0;
-    while let Printed::Length(end) = printing::rewrite(file, i, buffer) {
-        if !write(&buffer[..end], file, i) {
-            return false;
-        }
-        i += 1;
+impl Texts<LONGEST_FILE> for Printed<'_> {
+    ghost use Rattle.std.proofs.Common.{lit<, lit≤};
+    ghost use Rattle.printing.specs.Texts.{rewrite_texts};
+    ghost use Rattle.printing.specs.Laws.Fits.{rewrite_fits};
+
+    ghost texts = { λ p. rewrite_texts p.file.now };
+
+    fn text(&self, i: usize, buffer: &mut [u8]) -> Option<usize> {
+        printing::rewrite(self.file, i, buffer)
     }
-    true
+
+    ghost small = { lit< tt };
+
+    ghost fit = { λ p. rewrite_fits p.file.now };
+
+    ghost few = { λ _. lit≤ tt };
 }
 
+// One function for the programs would take the type of the texts and the message: no plainer than these lines.
 fn main() {
     let mut input = [0u8; MOST_BYTES + 1];
-    let mut buffer = [0u8; LONGEST_FILE];
     let n = io::read_full(0, &mut input);
-    if !print(&input[..n], &mut buffer) {
+    if !text::print(&Printed { file: &input[..n] }) {
         io::write_all(2, b"rewrite: the output could not be written\n");
     }
 }

@@ -1,3 +1,4 @@
 -- The arrays and the loops of the scan.
+pub mod Listed
 pub mod Arrays
 pub mod Loops

@@ -2,136 +2,118 @@
 // these functions require.
 #![tactic(auto)]
 
-ghost use Rattle.std.specs.Prelude.{◌≡◌, cond, not, ◌<◌, length, replicate};
-ghost use Rattle.base.specs.Every.{every};
+ghost use Rattle.std.specs.Prelude.{◌≡◌, ◌+◌, All, ◌<◌, not, length, replicate, slice_set};
+ghost use Rattle.std.specs.List.{list_all};
 ghost use Rattle.base.specs.Lists.{filled};
-ghost use Rattle.policy.specs.Record.{most_decisions, most_actions, listed};
+ghost use Rattle.policy.specs.Record.{most_decisions, most_actions};
 ghost use Rattle.policy.specs.Questions.{Accepted};
-ghost use Rattle.policy.specs.Laws.{ListFits, RuleFits, InRange};
+ghost use Rattle.policy.specs.Laws.{RuleFits, InRange};
 ghost use Rattle.model.specs.Clears.{fired_for};
 ghost use Rattle.model.specs.Fire.{is_held, can_fire, fired_of};
 
-use policy::{Decisions, MOST_DECISIONS, Policy, Query, Rule};
+use policy::{MOST_DECISIONS, Policy, Query, Rule};
 
-// The rules that fired, in order: `count` of them, and zeros behind them.
+// The rules that fired, in order: `count` of them, and zeros behind them. Document 01 has them handed back so, by value.
 #[derive(Clone, Copy)]
 pub struct FiredRules {
     pub count: u8,
     pub rules: [u8; MOST_DECISIONS],
 }
 
-// Every decision of the list is held.
-fn all_held(held: &[bool; MOST_DECISIONS], list: Decisions) -> bool
-    requires { ListFits most_decisions list }
-    ensures { result ≡ every (is_held held.now) (listed list) }
-{
-    let n = list.count as usize;
-    let at = list.at;
-    for i in 0..n {
-        let d = at[i] as usize;
-        if !held[d] {
-            return false;
-        }
-    }
-    true
-}
-
-// No decision of the list is held.
-fn none_held(held: &[bool; MOST_DECISIONS], list: Decisions) -> bool
-    requires { ListFits most_decisions list }
-    ensures { result ≡ every (λ d. not (is_held held.now d)) (listed list) }
-{
-    let n = list.count as usize;
-    let at = list.at;
-    for i in 0..n {
-        let d = at[i] as usize;
-        if held[d] {
-            return false;
-        }
-    }
-    true
-}
-
-// The rule can fire: its head is not held yet, and the world and the marks are as it asks.
-fn can_fire(rule: Rule, held: &[bool; MOST_DECISIONS], world: u16) -> bool
-    requires { RuleFits most_decisions most_actions rule }
-    ensures { result ≡ can_fire held.now world rule }
-{
-    let head = rule.head as usize;
-    let ifs = rule.ifs;
-    let unless = rule.unless;
-    if held[head] {
-        return false;
-    }
-    if !mask::contains(world, rule.needs) {
-        return false;
-    }
-    if !all_held(held, ifs) {
-        return false;
-    }
-    none_held(held, unless)
-}
-
-// What the scan answers: the rules that fired where the wanted decision is held, and else none.
-fn answer(held: bool, count: u8, rules: [u8; MOST_DECISIONS]) -> FiredRules
-    ensures count_value { result.count ≡ cond held count 0 }
-    ensures rules_value { result.rules ≡ cond held rules (replicate most_decisions 0) }
-{
-    if held {
-        FiredRules { count, rules }
-    } else {
+impl FiredRules {
+    // None has fired.
+    fn none() -> FiredRules
+        ensures { result ≡ record { count = 0; rules = replicate most_decisions 0 } }
+    {
         FiredRules {
             count: 0,
-            rules: [0u8; MOST_DECISIONS],
+            rules: [0; MOST_DECISIONS],
         }
     }
+
+    // Rule k fires next.
+    fn push(&mut self, k: u8)
+        requires { self.old.count < most_decisions }
+        ensures { self.new ≡ record { count = self.old.count + 1; rules = slice_set self.old.rules self.old.count k } }
+    {
+        self.rules[self.count as usize] = k;
+        self.count += 1;
+    }
+}
+
+// Each of the decisions is held.
+fn all_held(held: &[bool; MOST_DECISIONS], decisions: &[u8]) -> bool
+    requires { All (λ d. d < most_decisions) decisions.now }
+    ensures { result ≡ list_all (λ d. is_held held.now d) decisions.now }
+{
+    decisions.iter().all(|d| held[*d as usize])
+}
+
+// None of the decisions is held. It differs from `all_held` in the test, and not in a type or a number.
+fn none_held(held: &[bool; MOST_DECISIONS], decisions: &[u8]) -> bool
+    requires { All (λ d. d < most_decisions) decisions.now }
+    ensures { result ≡ list_all (λ d. not (is_held held.now d)) decisions.now }
+{
+    decisions.iter().all(|d| !held[*d as usize])
+}
+
+// The rule can fire: its head is not held yet, and the world and the marks are as it asks. A call of its own, since the scan asks it
+// of few rules and its loop is then shorter. The rule is required to fit: a type for one that does would be a second one beside
+// document 01's.
+#[inline(never)]
+#[tactic(auto, unfolding(model::specs::Fire::can_fire))]
+fn can_fire(rule: &Rule, held: &[bool; MOST_DECISIONS], world: u16) -> bool
+    requires { RuleFits most_decisions most_actions rule.now }
+    ensures { result ≡ can_fire held.now world rule.now }
+{
+    !held[rule.head as usize]
+        && mask::contains(world, rule.needs)
+        && all_held(held, rule.ifs.listed())
+        && none_held(held, rule.unless.listed())
 }
 
 // The rules that fire until `want` is held, level by level, in passes over the rules; none where it is never held.
 // No rule of a higher level than want's has the head `want`, so those levels are left out.
-fn scan(policy: Policy, want: u8, world: u16) -> FiredRules
-    requires in_range { InRange policy }
-    requires want_lt_decisions { want < policy.decisions }
-    ensures count_value { result.count ≡ length (fired_of policy world want) }
-    ensures rules_value { result.rules ≡ filled most_decisions 0 (fired_of policy world want) }
+fn scan(policy: &Policy, want: u8, world: u16) -> FiredRules
+    requires in_range { InRange policy.now }
+    requires want_lt_decisions { want < policy.now.decisions }
+    ensures count_value { result.count ≡ length (fired_of policy.now world want) }
+    ensures rules_value { result.rules ≡ filled most_decisions 0 (fired_of policy.now world want) }
 {
     let mut held = [false; MOST_DECISIONS];
-    let mut fired = [0u8; MOST_DECISIONS];
-    let mut n: usize = 0;
-    let rules = policy.rules as usize;
-    let goal = want as usize;
-    let levels = policy.level[goal] + 1;
+    let mut fired = FiredRules::none();
+    let levels = policy.level[want as usize] + 1;
     'scan: for level in 0..levels {
         'passes: loop {
-            let before = n;
-            'rules: for k in 0..rules {
-                let rule = policy.rule[k];
+            let before = fired.count;
+            'rules: for (k, rule) in policy.rules().iter().enumerate() {
                 let head = rule.head as usize;
                 if policy.level[head] == level && can_fire(rule, &held, world) {
                     held[head] = true;
-                    fired[n] = k as u8;
-                    n += 1;
-                    if head == goal {
+                    fired.push(k as u8);
+                    if rule.head == want {
                         break 'scan;
                     }
                 }
             }
-            if n == before {
+            if fired.count == before {
                 break 'passes;
             }
         }
     }
-    let count = n as u8;
-    answer(held[goal], count, fired)
+    if held[want as usize] {
+        fired
+    } else {
+        FiredRules::none()
+    }
 }
 
-// The rules that fire in the world of the set.
-pub fn fired(policy: Policy, query: Query, set: u16) -> FiredRules
-    requires { Accepted policy query }
-    ensures count_value { result.count ≡ length (fired_for policy query set) }
-    ensures rules_value { result.rules ≡ filled most_decisions 0 (fired_for policy query set) }
+// The rules that fire in the world of the set. No other function here asks for an accepted policy and query.
+pub fn fired(policy: &Policy, query: Query, set: u16) -> FiredRules
+    requires { Accepted policy.now query }
+    ensures count_value { result.count ≡ length (fired_for policy.now query set) }
+    ensures rules_value { result.rules ≡ filled most_decisions 0 (fired_for policy.now query set) }
 {
-    let action = policy.action;
-    let world = model::world(action, policy.actions, query.done, set);
+    let world = model::world(policy, query.done, set);
     scan(policy, query.want, world)
 }

@@ -1,5 +1,5 @@
 -- The loops that raise levels: what holds at each turn.
-use Prim.Native.Nat.{ℕ, ◌+◌, ◌-◌, ◌≤◌, ◌<◌, max}
+use Prim.Native.Nat.{ℕ, ◌+◌, ◌-◌, ◌≤◌, ◌<◌, max, zero-le}
 use mathlib.Core.Bool.{Bool, true, false}
 use mathlib.Core.List.{List}
 use mathlib.Core.Path.{◌≡◌, refl, sym, ◌∙◌, ap}
@@ -7,12 +7,14 @@ use mathlib.Core.Logic.{◌⊎◌, inl, inr}
 use native.Mathlib.Decide.{dec_lt}
 use native.Mathlib.Numerals.{add-one}
 use native.Mathlib.Omega.{arith}
-use lib.ListN.{length, take, get_or, replicate}
-use lib.Seq.{take-suc}
+use lib.ListN.{length, take, get_or, set, replicate}
+use lib.Seq.{take-suc, take_all}
 use Rattle.base.specs.Laws.Tests.{is_true, is_false, passes, get_or_filled}
 use Rattle.base.specs.Laws.Totals.{total}
 use Rattle.policy.specs.declared.Policy.{Policy}
-use Rattle.policy.specs.Record.{rule_of, head_of, with_levels}
+use Rattle.policy.specs.declared.Rule.{Rule}
+use Rattle.policy.specs.Record.{no_rule, rule_of, rules_of, head_of, with_levels}
+use Rattle.policy.proofs.Arrays.{front_entry}
 use Rattle.policy.specs.Questions.{others_in_range, lists_rise}
 use Rattle.policy.specs.Laws.{InRange}
 use Rattle.strata.specs.Levels.{above, asked, small, lowest, refused_levels, found_levels}
@@ -21,36 +23,26 @@ use Rattle.strata.specs.Laws.Raised.{reached_raise, raise_small, since_raised, s
 use Rattle.strata.specs.Laws.Levels.{small_each, each_small, met_fits, reached_lowest, lowest_fits, lowest_only, others_range}
 use Rattle.strata.specs.Laws.Levels.{found_nine, found_lowest}
 
--- `lowest` lies above the levels of the first i decisions of a list
-pub record Over (level : List ℕ) (step own : ℕ) (at : List ℕ) (count lowest i : ℕ) : Type 0 where
-  pub long : length at ≡ 8
-  pub few : count ≤ 8
-  pub within : i ≤ count
-  pub same : lowest ≡ above level step own (take i at)
+-- `lowest` lies above the levels of the first i of the decisions ds
+pub record Over (level : List ℕ) (step own : ℕ) (ds : List ℕ) (lowest i : ℕ) : Type 0 where
+  pub within : i ≤ length ds
+  pub same : lowest ≡ above level step own (take i ds)
 
-module _ {level : List ℕ} {step own : ℕ} {at : List ℕ} {count lowest i : ℕ} (so : Over level step own at count lowest i)
-    (h : i < count) where
+pub over_none : {level : List ℕ} {step own : ℕ} {ds : List ℕ} → Over level step own ds own 0
+unfolding above
+over_none = record { within = zero-le; same = refl }
+
+module _ {level : List ℕ} {step own : ℕ} {ds : List ℕ} {lowest i : ℕ} (so : Over level step own ds lowest i) where
   -- one decision more
-  over_next : above level step own (take (i + 1) at) ≡ max lowest (get_or level (get_or at i 0) 0 + step)
-  over_next = rw (add-one, take-suc at i 0 (omega (arith, so.long, so.few)), so.same)
-      (above_more level step own (take i at) (get_or at i 0))
+  pub over_more : i < length ds → Over level step own ds (max lowest (get_or level (get_or ds i 0) 0 + step)) (i + 1)
+  over_more h = record {
+    within = omega arith;
+    same = sym (rw (add-one, take-suc ds i 0 h, so.same) (above_more level step own (take i ds) (get_or ds i 0)));
+  }
 
-  over_step : (next : ℕ) → next ≡ max lowest (get_or level (get_or at i 0) 0 + step) → Over level step own at count next (i + 1)
-  over_step next e = record { long = so.long; few = so.few; within = omega arith; same = e ∙ sym over_next }
-
-  -- it is raised, or high enough
-  pub over_raised : lowest < get_or level (get_or at i 0) 0 + step → Over level step own at count (get_or level (get_or at i 0) 0 + step) (i + 1)
-  over_raised l = over_step (get_or level (get_or at i 0) 0 + step) (omega arith)
-
-  pub over_kept : get_or level (get_or at i 0) 0 + step ≤ lowest → Over level step own at count lowest (i + 1)
-  over_kept l = over_step lowest (omega arith)
-
--- above them all
-pub over_all : {level : List ℕ} {step own : ℕ} {at : List ℕ} {count lowest i : ℕ} → Over level step own at count lowest i → count ≤ i
-    → lowest ≡ above level step own (take count at)
-over_all {level} {step} {own} {at} {count} {i = i} so h =
-    let all : i ≡ count = omega (arith, so.within) in
-    so.same ∙ ap (λ (n : ℕ). above level step own (take n at)) all
+  -- above them all
+  pub over_all : length ds ≤ i → lowest ≡ above level step own ds
+  over_all h = so.same ∙ ap (above level step own) (take_all i ds h)
 
 module _ (p : Policy) where
   -- as a round starts
@@ -85,23 +77,24 @@ module _ (p : Policy) where
           asked_below p range k h reached (lowest p) (lowest_fits p range t),
         ))))
 
-    module _ {before : List ℕ} {k : ℕ} {level : List ℕ} {raised : Bool} (so : AtTurn before k level raised) (h : k < p.rules) where
-      -- rule k raises the level of its head
-      pub turn_raised : get_or level (head_of p k) 0 < asked level (rule_of p k) → asked level (rule_of p k) ≤ 15
-          → AtTurn before (k + 1) (raise p k level) true
-      turn_raised more low = let now = so.now.reached in record {
-        now = record { reached = reached_raise p range k h now; small = raise_small p range k h now so.now.small low };
-        since = since_raised p range k h before now more raised so.since;
-      }
+    -- rule k has this head and asks for so much
+    module _ {before : List ℕ} {k : ℕ} {level : List ℕ} {raised : Bool} (so : AtTurn before k level raised) (h : k < p.rules)
+        {head need : ℕ} (is : head ≡ head_of p k) (asks : need ≡ asked level (rule_of p k)) where
+      -- it raises the level of its head
+      pub turn_raised : get_or level head 0 < need → need ≤ 15 → AtTurn before (k + 1) (set level head need) true
+      turn_raised more low =
+          let now = so.now.reached in
+          let high : get_or level (head_of p k) 0 < asked level (rule_of p k) = rw (← is, ← asks) more in
+          rw (is, asks) (record {
+            now = record { reached = reached_raise p range k h now; small = raise_small p range k h now so.now.small (rw (← asks) low) };
+            since = since_raised p range k h before now high raised so.since;
+          })
 
       -- or is met as it is
-      pub turn_kept : asked level (rule_of p k) ≤ get_or level (head_of p k) 0 → AtTurn before (k + 1) level raised
+      pub turn_kept : need ≤ get_or level head 0 → AtTurn before (k + 1) level raised
       turn_kept low =
-          record { now = so.now; since = rw add-one (since_kept p range k h before so.now.reached low raised so.since) }
-
-      -- a rule that asks for more is met by no levels
-      pub turn_refused : 15 < asked level (rule_of p k) → refused_levels 9 ≡ found_levels p
-      turn_refused high = too_high k level h so.now.reached high
+          let met : asked level (rule_of p k) ≤ get_or level (head_of p k) 0 = rw (← is, ← asks) low in
+          record { now = so.now; since = rw add-one (since_kept p range k h before so.now.reached met raised so.since) }
 
     -- no level was raised by all rules: they are the lowest
     pub rounds_end : {before : List ℕ} {k : ℕ} {level : List ℕ} {raised : Bool} → p.rules ≤ k
@@ -120,10 +113,13 @@ module _ (p : Policy) where
       let higher : total before < total level = rw up at so.since in
       omega (arith, higher, total_small level so.now.small, so.now.reached.long)
 
--- a rule asks for 15 at most, or the policy is refused
-pub asks_or_refused : (p : Policy) (k : ℕ) (level : List ℕ) → k < p.rules → AtRound p level → others_in_range p ≡ true → lists_rise p ≡ true
-    → (asked level (rule_of p k) ≤ 15) ⊎ (found_levels p ≡ refused_levels 9)
-asks_or_refused p k level h at three four = elim (dec_lt 15 (asked level (rule_of p k))) [
-  | yes high ↦ inr (sym (too_high p three four k level h at.reached high))
-  | no low ↦ inl (omega arith)
-]
+-- a rule that the loop reads asks for 15 at most, or the policy is refused
+pub asks_or_refused : (p : Policy) (items : List Rule) (k : ℕ) (level : List ℕ) → items ≡ rules_of p → k < length items → length items ≤ p.rules
+    → AtRound p level → others_in_range p ≡ true → lists_rise p ≡ true
+    → (asked level (get_or items k no_rule) ≤ 15) ⊎ (found_levels p ≡ refused_levels 9)
+asks_or_refused p items k level e h few at three four =
+    let here = ap (asked level) (front_entry items p.rules p.rule no_rule k e h) in
+    elim (dec_lt 15 (asked level (get_or items k no_rule))) [
+      | yes high ↦ inr (sym (too_high p three four k level (omega arith) at.reached (rw (← here) high)))
+      | no low ↦ inl (omega arith)
+    ]

@@ -1,10 +1,12 @@
 -- The lowest levels that fit a policy's rules: what the call that finds them promises, and how it finds them.
-use Rattle.std.specs.Prelude.{ℕ, zero, suc, ◌+◌, ◌≤◌, max, Bool, true, false, List, [], ◌∷◌, ◌↔◌, ◌≢◌, ◌≡◌, T, length, get_or, set, take, replicate}
-use Rattle.base.specs.Every.{every}
+use Rattle.std.specs.Prelude.{ℕ, zero, suc, ◌+◌, ◌≤◌, max, Bool, true, false, List, [], ◌∷◌, ◌↔◌, ◌≢◌, ◌≡◌, T, length, get_or, set, take, replicate, Result, Ok, Err}
+use Rattle.std.specs.List.{list_all}
 use Rattle.policy.specs.declared.Policy.{Policy}
 use Rattle.policy.specs.declared.Rule.{Rule}
 use Rattle.policy.specs.Record.{listed, rule_of, head_of, with_levels}
 use Rattle.policy.specs.Questions.{Question, first_no, level_in_range, others_in_range, lists_rise, levels_fit, weights_fit, refused_or, check_of}
+use Rattle.policy.specs.declared.refusal.Refusal.{Refusal}
+use Rattle.policy.specs.Refusal.{number_of}
 use Rattle.strata.specs.declared.Levelling.{Levelling}
 
 module _ (p : Policy) where
@@ -13,7 +15,7 @@ module _ (p : Policy) where
   fits level = levels_fit (with_levels p level)
 
   abbrev pub small : List ℕ → Bool
-  small level = every level_in_range (take p.decisions level)
+  small level = list_all level_in_range (take p.decisions level)
 
   -- these levels fit, are 0 to 15, and none that fit have a lower one
   pub record Lowest (level : List ℕ) : Type 0 where
@@ -48,6 +50,11 @@ asked level r = above level 1 (above level 0 (get_or level r.head 0) (listed r.i
 -- a refusal: every level is 0
 abbrev pub refused_levels : ℕ → Levelling
 refused_levels n = record { refusal = n; level = replicate 128 0 }
+
+-- the answer that levels or a refusal are handed back as
+abbrev pub levelling : Result (List ℕ) Refusal → Levelling
+levelling (Ok level) = record { refusal = 0; level = level }
+levelling (Err e) = refused_levels (number_of e)
 
 module _ (p : Policy) where
   -- each of the first n rules in turn raises the level of its head as far as it asks

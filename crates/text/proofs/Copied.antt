@@ -1,21 +1,29 @@
 -- A text that is copied as far as there is room is put.
-use Prim.Native.Nat.{ℕ, ◌+◌, ◌-◌, min}
-use mathlib.Core.Path.{◌≡◌, sym, ◌∙◌, ap}
-use mathlib.Core.List.{List, ◌++◌}
-use native.Mathlib.Omega.{arith}
-use lib.ListN.{length, take, drop, length-take}
-use lib.Seq.{paste, take-take, take-length}
+use Rattle.std.proofs.Common.{ℕ, ◌+◌, ◌-◌, ◌≤◌, min, ◌≡◌, sym, ◌∙◌, ap, List, ◌++◌, length, take, drop, length-take, arith, append-nil, take-append-drop}
+use Rattle.std.proofs.Math.Seq.{take-take, take-length}
+use Rattle.std.proofs.lemmas.Slice.{put_mid-paste}
+use borrow.Rule.Slice.PartMut.{put_mid}
 use Rattle.text.specs.Put.{fitting, Puts}
 
-pub copied : (before text after : List ℕ) (at i : ℕ) → i ≡ min (length before - at) (length text)
-    → after ≡ paste before at text i → Puts before at text after (at + i)
+-- into the places behind `at`
+pub copied : (before text part : List ℕ) (at n : ℕ) → n ≡ min (length text) (length before - at) → part ≡ take n text
+    → Puts before at text (put_mid at (at + n - at) before part) (at + n)
 unfolding fitting
-copied before text after at i most copy =
-    let n = length before - at in
-    let f = take n text in
-    let long : i ≡ length f = most ∙ sym (length-take n text) in
-    let all : take (length f) text ≡ f = sym (take-take (length f) n text (omega (arith, long, most))) ∙ take-length f in
+copied before text part at n most e =
+    let room = length before - at in
+    let f = take room text in
+    let long : n ≡ length f = omega (arith, most, length-take room text) in
+    let all : take n text ≡ f =
+    ap (λ (k : ℕ). take k text) long ∙ sym (take-take (length f) room text (omega (arith, long, most))) ∙ take-length f in
     record {
       ends = ap (λ (k : ℕ). at + k) long;
-      holds = copy ∙ ap (λ l. take at before ++ l ++ drop (at + i) before) (ap (λ (k : ℕ). take k text) long ∙ all);
+      holds = put_mid-paste at (at + n - at) before part f n (e ∙ all) (omega arith) long
+          ∙ ap (λ l. take at before ++ l ++ drop (at + n) before) (ap (λ (k : ℕ). take k f) long ∙ take-length f);
     }
+
+-- where there is none
+pub full : (before text : List ℕ) (at : ℕ) → length before ≤ at → Puts before at text before at
+unfolding fitting
+full before text at h =
+    let none : length before - at ≡ 0 = omega arith in
+    record { ends = rw none (omega arith); holds = rw none (rw append-nil (sym (take-append-drop at before))) }

@@ -1,7 +1,8 @@
 -- What putting a text into a buffer does, and the text of a refusal.
-use Rattle.std.specs.Prelude.{ℕ, zero, suc, ◌+◌, ◌-◌, ◌≡◌, List, [], ◌++◌, length, take, drop}
+use Rattle.std.specs.Prelude.{ℕ, ◌+◌, ◌-◌, ◌≡◌, List, ◌++◌, length, take, drop}
 use Rattle.format.specs.Text.{ascii, decimal}
 use Rattle.format.specs.Written.{line_of}
+use Rattle.text.specs.declared.Pen.{Pen}
 
 -- as much of a text as there is room for behind the first `at` bytes
 unfoldable pub fitting : List ℕ → ℕ → List ℕ → List ℕ
@@ -12,10 +13,13 @@ pub record Puts (before : List ℕ) (at : ℕ) (text after : List ℕ) (end : �
   pub ends : end ≡ at + length (fitting before at text)
   pub holds : after ≡ take at before ++ fitting before at text ++ drop end before
 
--- what stands before the entry at i of a list of numbers
-unfoldable pub comma : ℕ → List ℕ
-comma zero = []
-comma (suc i) = ascii ","
+-- a pen that has put a text where the last one ended
+unfoldable pub with_text : List ℕ → Pen → Pen
+with_text text pen =
+    let part = fitting pen.buffer.now pen.at text in
+    let end = pen.at + length part in
+    let after = take pen.at pen.buffer.now ++ part ++ drop end pen.buffer.now in
+    record pen { buffer = record pen.buffer { now = after }; at = end }
 
 -- the line of a refusal
 unfoldable pub refused_text : ℕ → List ℕ

@@ -1,111 +1,134 @@
-// Text put into a lent buffer behind its first `at` bytes. Each function returns where the text ends; bytes that do not fit
-// are dropped.
+// Text put into a lent buffer with a pen. Its modules put lists of texts, and hand texts out one at a time.
 #![tactic(auto)]
 
-ghost use Rattle.std.specs.Prelude.{◌++◌};
-ghost use Rattle.format.specs.Text.{ascii, decimal};
-ghost use Rattle.format.specs.Written.{commas, each};
-ghost use Rattle.text.specs.Put.{Puts, comma, refused_text};
+ghost use Rattle.std.specs.Prelude.{ℕ, ◌≡◌, List};
+ghost use Rattle.policy.specs.Refusal.{number_of};
+ghost use Rattle.format.specs.Text.{decimal};
+ghost use Rattle.format.specs.Written.{line_of};
+ghost use Rattle.text.specs.Put.{with_text, refused_text};
 
-// What a call answers that hands out texts one at a time: the length of the text that stands at the start of the buffer, or that
-// no text is left.
+use policy::Refusal;
+
+mod entries;
+mod lists;
+mod texts;
+
+pub use texts::{Texts, only, print, start};
+
+// A lent buffer, and where the text in it ends. Bytes that do not fit are dropped.
+#[derive(Drop)]
+pub struct Pen<'a> {
+    buffer: &'a mut [u8],
+    at: usize,
+}
+
+// What can be put with a pen. It is not `Display`, which for the record's types would have to stand in `policy`, below the definitions
+// of their texts; and a pen cuts what does not fit, where a formatter stops with an error.
+pub trait Text {
+    // its text
+    ghost text: { Self → List ℕ };
+
+    fn put(&self, pen: &mut Pen<'_>)
+        ensures { pen.new ≡ with_text (text self.now) pen.old };
+}
+
+// A number, by its digits: an impl for each width, since one for all of them would overlap those below.
+impl Text for u32 {
+    ghost text = { decimal };
+
+    fn put(&self, pen: &mut Pen<'_>) {
+        pen.number(*self);
+    }
+}
+
+impl Text for u16 {
+    ghost text = { decimal };
+
+    fn put(&self, pen: &mut Pen<'_>) {
+        pen.number(*self as u32);
+    }
+}
+
+impl Text for u8 {
+    ghost text = { decimal };
+
+    fn put(&self, pen: &mut Pen<'_>) {
+        pen.number(*self as u32);
+    }
+}
+
+// Bytes, as they are.
 #[derive(Clone, Copy)]
-pub enum Printed {
-    Length(usize),
-    Nothing,
+pub struct Bytes<'a>(pub &'a [u8]);
+
+impl Text for Bytes<'_> {
+    ghost text = { λ b. b.0.now };
+
+    fn put(&self, pen: &mut Pen<'_>) {
+        pen.put(self.0);
+    }
 }
 
-// Puts a text.
-pub fn put(buffer: &mut [u8], at: usize, text: &[u8]) -> usize
-    ensures { Puts buffer.old at text.now buffer.new result }
-{
-    let mut i = 0;
-    while i < text.len() {
-        let place = at + i;
-        if place >= buffer.len() {
-            return place;
+// A refusal, by the line of its number.
+#[derive(Clone, Copy)]
+pub struct Refused(pub u8);
+
+impl Text for Refused {
+    ghost text = { λ r. refused_text r.0 };
+
+    #[tactic(auto, unfolding(crate::specs::Put::refused_text))]
+    fn put(&self, pen: &mut Pen<'_>) {
+        pen.line(b"refused", &self.0);
+    }
+}
+
+impl Text for Refusal {
+    ghost text = { λ r. refused_text (number_of r) };
+
+    fn put(&self, pen: &mut Pen<'_>) {
+        Refused(u8::from(*self)).put(pen);
+    }
+}
+
+impl<'a> Pen<'a> {
+    // A pen at the start of the buffer.
+    fn new(buffer: &'a mut [u8]) -> Pen<'a>
+        ensures same_reference { result.buffer.ghost_name ≡ buffer.entry.ghost_name }
+        ensures same { result.buffer.now ≡ buffer.old }
+        ensures at { result.at ≡ 0 }
+    {
+        Pen { buffer, at: 0 }
+    }
+
+    // Puts a text.
+    pub fn put(&mut self, text: &[u8])
+        ensures { self.new ≡ with_text text.now self.old }
+    {
+        if self.at < self.buffer.len() {
+            let n = text.len().min(self.buffer.len() - self.at);
+            let end = self.at + n;
+            self.buffer[self.at..end].copy_from_slice(&text[..n]);
+            self.at = end;
         }
-        buffer[place] = text[i];
-        i += 1;
     }
-    at + i
-}
 
-// Puts the digits of a number.
-pub fn number(buffer: &mut [u8], at: usize, n: u32) -> usize
-    ensures { Puts buffer.old at (decimal n) buffer.new result }
-{
-    let mut text = [0u8; 20];
-    let k = io::decimal(n as u64, &mut text);
-    put(buffer, at, &text[..k])
-}
-
-// Puts a line: a key with its = sign, and a number.
-pub fn line(buffer: &mut [u8], at: usize, key: &[u8], n: u32) -> usize
-    ensures { Puts buffer.old at (key.now ++ (decimal n ++ ascii "\n")) buffer.new result }
-{
-    let at = put(buffer, at, key);
-    let at = number(buffer, at, n);
-    put(buffer, at, b"\n")
-}
-
-// Puts the number at place i of a list, with a comma before it unless it is the first.
-#[tactic(auto, using(crate::specs::Laws::Entries::comma_first))]
-pub fn entry(buffer: &mut [u8], at: usize, i: usize, n: u16) -> usize
-    ensures { Puts buffer.old at (comma i ++ decimal n) buffer.new result }
-{
-    if i == 0 {
-        return number(buffer, at, n as u32);
+    // Puts a line: a key, the = sign and a text.
+    #[tactic(auto, using(crate::specs::Laws::Pens::with_line))]
+    pub fn line<T: Text>(&mut self, key: &[u8], text: &T)
+        ensures { self.new ≡ with_text (line_of key.now (T.text text.now)) self.old }
+    {
+        self.put(key);
+        self.put(b"=");
+        text.put(self);
+        self.put(b"\n");
     }
-    let at = put(buffer, at, b",");
-    number(buffer, at, n as u32)
-}
 
-// Puts the line of a refusal.
-pub fn refusal(buffer: &mut [u8], at: usize, n: u8) -> usize
-    ensures { Puts buffer.old at (refused_text n) buffer.new result }
-{
-    line(buffer, at, b"refused=", n as u32)
-}
-
-// Puts a line for each number: a key with its = sign, and the number.
-pub fn lines(buffer: &mut [u8], at: usize, key: &[u8], numbers: &[u8]) -> usize
-    ensures { Puts buffer.old at
-        (each (λ n. key.now ++ (decimal n ++ ascii "\n")) numbers.now) buffer.new result }
-{
-    let mut end = at;
-    let mut i = 0;
-    while i < numbers.len() {
-        end = line(buffer, end, key, numbers[i] as u32);
-        i += 1;
+    // Puts the digits of a number.
+    fn number(&mut self, n: u32)
+        ensures { self.new ≡ with_text (decimal n) self.old }
+    {
+        let mut text = [0u8; 20];
+        let k = io::decimal(n as u64, &mut text);
+        self.put(&text[..k]);
     }
-    end
-}
-
-// Puts the line of a list: a key with its = sign, and the numbers with one comma between.
-pub fn list(buffer: &mut [u8], at: usize, key: &[u8], numbers: &[u8]) -> usize
-    ensures { Puts buffer.old at
-        (key.now ++ (commas numbers.now ++ ascii "\n")) buffer.new result }
-{
-    let mut end = put(buffer, at, key);
-    let mut i = 0;
-    while i < numbers.len() {
-        end = entry(buffer, end, i, numbers[i] as u16);
-        i += 1;
-    }
-    put(buffer, end, b"\n")
-}
-
-// The same for a list of masks.
-pub fn masks(buffer: &mut [u8], at: usize, key: &[u8], masks: &[u16]) -> usize
-    ensures { Puts buffer.old at
-        (key.now ++ (commas masks.now ++ ascii "\n")) buffer.new result }
-{
-    let mut last = put(buffer, at, key);
-    let mut i = 0;
-    while i < masks.len() {
-        last = entry(buffer, last, i, masks[i]);
-        i += 1;
-    }
-    put(buffer, last, b"\n")
 }

@@ -20,7 +20,7 @@ unfolding decisions_to
 decisions_more n = rw add-one
 
 -- two rules for each decision
-pub first_few : (i j : ℕ) → length (first_for i j) ≤ 1
+first_few : (i j : ℕ) → length (first_for i j) ≤ 1
 unfolding first_for
 first_few i j = go (ltb j i)
   where
@@ -28,10 +28,14 @@ first_few i j = go (ltb j i)
     go true = le_refl 1
     go false = zero-le
 
+pub rules_few : (i j : ℕ) → length (rules_for i j) ≤ 2
+unfolding rules_for
+rules_few i j = simp length-append (omega (arith, first_few i j))
+
 pub row_few : (i n : ℕ) → length (row i n) ≤ n * 2
-unfolding row rules_for
+unfolding row
 row_few i zero = le_refl 0
-row_few i (suc n) = simp length-append (omega (arith, row_few i n, first_few i (suc n)))
+row_few i (suc n) = simp length-append (omega (arith, row_few i n, rules_few i (suc n)))
 
 pub rows_few : (n : ℕ) → length (rows n) ≤ n * 16
 unfolding rows

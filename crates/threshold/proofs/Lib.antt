@@ -1,4 +1,3 @@
--- Laws that the proofs of the functions cite.
-pub mod Made
+-- What the proofs of the policy cite.
 pub mod Counts
 pub mod Filling

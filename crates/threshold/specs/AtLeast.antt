@@ -1,6 +1,7 @@
 -- Document 02's policy with the most slim sets (F-14): decision by decision, "at least j of the first i actions" (a threshold),
 -- i from 1 to 16 and j from 1 to i or 8, whichever is less.
-use Rattle.std.specs.Prelude.{ℕ, zero, suc, ◌+◌, ◌-◌, ◌^◌, ◌≤◌, min, cond, List, [], ◌∷◌, ◌++◌, eqb, ltb, replicate}
+use Rattle.std.specs.Prelude.{ℕ, zero, suc, ◌+◌, ◌-◌, ◌^◌, ◌≤◌, min, cond, List, [], ◌∷◌, ◌++◌, eqb, ltb, set, replicate}
+use Rattle.std.specs.List.{fold}
 use Rattle.policy.specs.declared.Policy.{Policy}
 use Rattle.policy.specs.declared.Query.{Query}
 use Rattle.policy.specs.declared.Rule.{Rule}
@@ -62,6 +63,20 @@ rows (suc n) = rows n ++ row (suc n) (wide (suc n))
 -- each action is a provision of weight 1 that does no other
 unfoldable pub plain : Action
 plain = record { kind = Provision; weight = 1; also = 0 }
+
+-- the policy with a rule, and with some, past its last
+abbrev pub with_rule : Policy → Rule → Policy
+with_rule p r = record {
+  decisions = p.decisions;
+  actions = p.actions;
+  rules = p.rules + 1;
+  level = p.level;
+  action = p.action;
+  rule = set p.rule p.rules r;
+}
+
+abbrev pub with_rules : Policy → List Rule → Policy
+with_rules = fold with_rule
 
 -- the policy: 100 decisions at level 0, 16 actions and their rules
 unfoldable pub at_least : Policy

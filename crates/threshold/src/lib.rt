@@ -1,40 +1,20 @@
 // The policy whose query has the most slim sets: decision by decision, "at least j of the first i actions".
 #![tactic(auto)]
 
-ghost use Rattle.std.specs.Prelude.{◌≡◌};
-ghost use Rattle.format.specs.Entries.{zero_rule};
-ghost use Rattle.base.specs.Lists.{filled};
-ghost use Rattle.threshold.specs.AtLeast.{plain, rows, at_least, stated};
+ghost use Rattle.std.specs.Prelude.{◌<◌, ◌≤◌, ◌≡◌};
 ghost use Rattle.policy.specs.Record.{most_rules};
+ghost use Rattle.threshold.specs.AtLeast.{plain, rules_for, with_rule, with_rules, at_least, stated};
 
+use decision::{AtLeast, wide};
 use policy::{
     Action, Kind, MOST_ACTIONS, MOST_DECISIONS, MOST_QUERIES, MOST_RULES, Policy, Queries, Query,
     Rule,
 };
 
-mod numbers;
-mod parts;
-
-// The rules of all decisions in order, and zeros past them.
-fn rules() -> [Rule; MOST_RULES]
-    ensures { result ≡ filled most_rules zero_rule (rows 16) }
-{
-    let mut rule = [format::zero_rule(); MOST_RULES];
-    let mut k = 0;
-    for i in 1..17 {
-        for j in 1..numbers::wide(i) + 1 {
-            if j < i {
-                rule[k] = parts::without(i, j);
-                k += 1;
-            }
-            rule[k] = parts::having(i, j);
-            k += 1;
-        }
-    }
-    rule
-}
+mod decision;
 
 // A provision of weight 1 that does no other.
+#[tactic(auto, unfolding(crate::specs::AtLeast::plain))]
 fn plain() -> Action
     ensures { result ≡ plain }
 {
@@ -45,21 +25,45 @@ fn plain() -> Action
     }
 }
 
+// Puts a rule past the policy's last.
+fn add(policy: &mut Policy, rule: Rule)
+    requires { policy.now.rules < most_rules }
+    ensures { policy.new ≡ with_rule policy.old rule }
+{
+    policy.rule[policy.rules as usize] = rule;
+    policy.rules += 1;
+}
+
+// Puts the rules of a decision past the policy's last.
+fn add_rules(policy: &mut Policy, decision: AtLeast)
+    requires { policy.now.rules ≤ 254 }
+    ensures { policy.new ≡ with_rules policy.old (rules_for decision.i decision.j) }
+{
+    if decision.j < decision.i {
+        add(policy, decision.without());
+    }
+    add(policy, decision.having());
+}
+
 // The policy.
 pub fn policy() -> Policy
     ensures { result ≡ at_least }
 {
-    let level = [0u8; MOST_DECISIONS];
-    let action = [plain(); MOST_ACTIONS];
-    let rule = rules();
-    Policy {
+    let mut policy = Policy {
         decisions: 100,
         actions: 16,
-        rules: 192,
-        level,
-        action,
-        rule,
+        rules: 0,
+        level: [0; MOST_DECISIONS],
+        action: [plain(); MOST_ACTIONS],
+        rule: [format::zero_rule(); MOST_RULES],
+    };
+    // with 1..=16 the proof has no name for what holds after the last turn
+    for i in 1..17 {
+        for j in 1..wide(i) + 1 {
+            add_rules(&mut policy, AtLeast { i, j });
+        }
     }
+    policy
 }
 
 // Its one query: at least 8 of 16, with nothing done.
@@ -67,6 +71,6 @@ pub fn queries() -> Queries
     ensures { result ≡ stated.queries }
 {
     let mut at = [Query { want: 0, done: 0 }; MOST_QUERIES];
-    at[0].want = numbers::number(16, 8);
+    at[0].want = AtLeast { i: 16, j: 8 }.number();
     Queries { count: 1, at }
 }

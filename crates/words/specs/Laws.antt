@@ -3,3 +3,4 @@ pub mod Worked
 pub mod Wanted
 pub mod Known
 pub mod Alike
+pub mod Props

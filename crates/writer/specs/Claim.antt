@@ -1,5 +1,5 @@
 -- What is claimed of the files that the writer writes (document 02, F-2).
-use Rattle.std.specs.Prelude.{ℕ, ◌≤◌, List, ◌++◌, ◌≡◌, length, drop}
+use Rattle.std.specs.Prelude.{ℕ, ◌≤◌, List, ◌++◌, ◌≡◌, length, drop, Ok}
 use Rattle.policy.specs.declared.Policy.{Policy}
 use Rattle.policy.specs.Record.{Agree, Sized}
 use Rattle.policy.specs.declared.Queries.{Queries}
@@ -8,7 +8,6 @@ use Rattle.engine.specs.Meaning.{AllYes}
 use Rattle.format.specs.Bounds.{longest_file}
 use Rattle.reader.specs.File.{read_of}
 use Rattle.reader.specs.Claim.{AcceptedFile}
-use Rattle.writer.specs.declared.Written.TheVariants.{Length}
 use Rattle.writer.specs.Writing.{AgreeQueries, file_text, write_of, write_after, Writes}
 
 -- a policy and its queries that a program holds, in arrays as long as their structs declare, and accepted
@@ -25,7 +24,7 @@ pub record SameFile (p : Policy) (qs : Queries) (p' : Policy) (qs' : Queries) : 
 
 -- s is what the writer makes of the record that is read from it, with every buffer that has room for s
 pub record Rewritten (s : List ℕ) (before : List ℕ) : Type 0 where
-  pub answer : write_of (read_of s).policy (read_of s).queries (length before) ≡ Length (length s)
+  pub answer : write_of (read_of s).policy (read_of s).queries (length before) ≡ Ok (length s)
   pub after : write_after (read_of s).policy (read_of s).queries before ≡ s ++ drop (length s) before
 
 pub record Saves : Type 0 where

@@ -1,7 +1,9 @@
 -- What the writer returns, and what the lent buffer holds afterwards.
-use Rattle.std.specs.Prelude.{ℕ, List, [], ◌∷◌, ◌++◌, ◌≡◌, leb, length, take, drop}
+use Rattle.std.specs.Prelude.{ℕ, List, [], ◌∷◌, ◌++◌, ◌≡◌, leb, length, take, drop, Result, Ok, Err}
 use Rattle.policy.specs.declared.Policy.{Policy}
 use Rattle.policy.specs.Record.{Agree}
+use Rattle.policy.specs.declared.refusal.Refusal.{Refusal}
+use Rattle.policy.specs.Refusal.{number_of, refuse}
 use Rattle.policy.specs.Questions.{Question, first_no, record_questions}
 use Rattle.policy.specs.declared.Queries.{Queries}
 use Rattle.engine.specs.Calls.{refused_or}
@@ -10,8 +12,6 @@ use Rattle.format.specs.Written.{file_of}
 use Rattle.reader.specs.declared.Reading.{Reading}
 use Rattle.reader.specs.File.{read_of}
 use Rattle.reader.specs.Claim.{Clear}
-use Rattle.writer.specs.declared.Written.{Written}
-use Rattle.writer.specs.declared.Written.TheVariants.{Refused, Length}
 
 -- queries without the entries past their count; two that agree below their counts
 abbrev pub cut_queries : Queries → Queries
@@ -29,8 +29,8 @@ module _ (p : Policy) (qs : Queries) where
   unfoldable pub write_questions : ℕ → List Question
   write_questions places = record_questions p qs ++ (record { number = 10; yes = leb (length file_text) places } ∷ [])
 
-  unfoldable pub write_of : ℕ → Written
-  write_of places = refused_or (first_no (write_questions places)) Refused (Length (length file_text))
+  unfoldable pub write_of : ℕ → Result ℕ Refusal
+  write_of places = refused_or (first_no (write_questions places)) refuse (Ok (length file_text))
 
   -- what the buffer holds afterwards
   unfoldable pub write_after : List ℕ → List ℕ
@@ -45,8 +45,8 @@ module _ (p : Policy) (qs : Queries) where
 
   -- what each case of the answer means, where the buffer held `before` and holds `after`: the file stands at its start, and is
   -- read back; the bytes past it are as they were
-  abbrev pub Writes : List ℕ → List ℕ → Written → Type 0
-  Writes before after (Refused n) = Refuses (write_questions (length before)) n × (after ≡ before)
-  Writes before after (Length n) =
+  abbrev pub Writes : List ℕ → List ℕ → Result ℕ Refusal → Type 0
+  Writes before after (Err e) = Refuses (write_questions (length before)) (number_of e) × (after ≡ before)
+  Writes before after (Ok n) =
       AllYes (write_questions (length before)) × (n ≡ length file_text) × (take n after ≡ file_text) × (drop n after ≡ drop n before)
       × ReadBack (read_of (take n after))

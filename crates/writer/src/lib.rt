@@ -5,31 +5,25 @@ ghost use Rattle.std.specs.Prelude.{◌≡◌, length};
 ghost use Rattle.writer.specs.Writing.{write_of, write_after, Writes};
 
 use format::LONGEST_FILE;
-use policy::{Policy, Queries};
-
-// What write answers: the number of the question answered no, or the length of the file written.
-#[derive(Clone, Copy)]
-pub enum Written {
-    Refused(u8),
-    Length(usize),
-}
+use policy::{Policy, Queries, Refusal};
+use records::File;
 
 // Writes the file at the start of the lent buffer, and returns its length; bytes past it keep what they held.
-#[tactic(auto, using(crate::proofs::Answers::early_first, crate::proofs::Answers::early_value, crate::proofs::Answers::early_after))]
-pub fn write(policy: Policy, queries: Queries, buffer: &mut [u8]) -> Written
+pub fn write(policy: Policy, queries: Queries, buffer: &mut [u8]) -> Result<usize, Refusal>
     ensures value { result ≡ write_of policy queries (length buffer.old) }
     ensures buffer_after { buffer.new ≡ write_after policy queries buffer.old }
     ensures writes { Writes policy queries buffer.old buffer.new result }
 {
-    let refusal = engine::check_record(policy, queries);
-    if refusal != 0 {
-        return Written::Refused(refusal);
-    }
+    engine::check_record(policy, queries)?;
     let mut whole = [0u8; LONGEST_FILE];
-    let end = records::put_file(&mut whole, policy, queries);
+    let file = File {
+        policy: &policy,
+        queries: &queries,
+    };
+    let end = text::start(&file, &mut whole);
     if buffer.len() < end {
-        return Written::Refused(10);
+        return Err(Refusal::BufferTooShort);
     }
-    text::put(buffer, 0, &whole[..end]);
-    Written::Length(end)
+    buffer[..end].copy_from_slice(&whole[..end]);
+    Ok(end)
 }

@@ -1,5 +1,4 @@
 -- The loop keeps the sets of each action of the set.
-use Prim.Native.Nat.{◌-◌}
 use lib.Bits.{bit_and}
 use Rattle.mask.specs.Mask.{has}
 use Rattle.columns.specs.Sets.{all_sets, column_of}
@@ -8,6 +7,3 @@ use Rattle.columns.proofs.holding.Given as goal
 
 abbrev pub invariant-loop-a : goal.invariant-loop-a
 invariant-loop-a l = Picking bit_and (has l.set) (column_of l.w) all_sets 16 l.sets l.a
-
-abbrev pub decreases-loop-a : goal.decreases-loop-a
-decreases-loop-a l = 16 - l.a

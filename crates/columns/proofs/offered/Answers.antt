@@ -18,4 +18,4 @@ loop-a-preserved c =
     ]
 
 pub returns : goal.returns
-returns c = picking_all c.loop-a.invariant (omega (arith, c.loop-a-test.false)) ∙ offered_is _ _ _ c.requires
+returns c = picking_all c.loop-a.invariant (omega (arith, c.loop-a-test.false)) ∙ offered_is _ _ _ c.args.w.within

@@ -1,6 +1,6 @@
 -- The words of marks: where the words below are right, so is the next.
 use Rattle.std.specs.Prelude.{ℕ, ◌+◌, ◌-◌, ◌*◌, ◌/◌, ◌%◌, ◌^◌, ◌<◌, Bool, ◌&&◌, ◌||◌, List, ◌≡◌, T, length, get_or, set}
-use Rattle.std.proofs.Common.{inl, inr, ⊎_elim, sym, ◌∙◌, ap, subst, arith, length-set, get_or-set_same, get_or-set_other}
+use Rattle.std.proofs.Common.{◌≤◌, inl, inr, ⊎_elim, sym, ◌∙◌, ap, subst, arith, pow_mono, length-set, get_or-set_same, get_or-set_other}
 use Rattle.std.proofs.Math.Decide.{ℕ_discrete}
 use Rattle.std.specs.Int.Bits.{bit_or}
 use Rattle.base.specs.Every.{some_below}
@@ -10,7 +10,11 @@ use Rattle.mask.specs.Mask.{has, ◌⊆◌}
 use Rattle.mask.specs.Laws.{has_or, has_none, has→<, without_⊆, without_<, proper_⊆_without}
 use Rattle.mask.specs.Laws.Minimal.{covered, covered_at, covered_make}
 use Rattle.columns.specs.Laws.Picked.{picked_joins}
-use Rattle.covers.specs.Covers.{Marks, Table, Members, marked_in, closed_of, low_of, covered_of}
+use Rattle.policy.specs.declared.Policy.{Policy}
+use Rattle.policy.specs.declared.Query.{Query}
+use Rattle.policy.specs.Questions.{Accepted}
+use Rattle.policy.specs.Laws.{accepted_range}
+use Rattle.covers.specs.Covers.{word_count, Marks, Table, Members, marked_in, closed_of, low_of, covered_of}
 use Rattle.covers.specs.Laws.Closed.{closed_at, closed_make}
 use Rattle.covers.specs.Laws.Places.{subset_word, subset_place, subset_make}
 
@@ -109,3 +113,7 @@ unfolding marked_in
 table_marked {test} so s h =
     let whole : 64 * (s / 64) + s % 64 ≡ s = omega arith in
     (so.right (s / 64) (omega arith)).bits (s % 64) (omega arith) ∙ ap test whole
+
+-- ---- the sets of a policy that a query is put to have no more than 1,024 words
+pub words_few : (p : Policy) (q : Query) → Accepted p q → word_count p.actions ≤ 1024
+words_few p q ok = omega (arith, pow_mono (accepted_range p q ok).actions)

@@ -5,4 +5,4 @@ use Rattle.engine.proofs.check_record.Goals as goal
 
 pub returns : goal.returns
 unfolding check_record_of
-returns c = checked _ _ (rw (← c.queries_in_range-queries_fit.ensures) c.refusal.ensures)
+returns c = checked _ _ (rw (← c.queries_in_range-queries_fit.ensures) c.ask.ensures)

@@ -1,47 +1,39 @@
 -- `choose` is refused, or answers what the survey found, and what to keep off beside it.
-use Prim.Native.Nat.{ℕ}
-use mathlib.Core.Path.{sym, ◌∙◌}
-use lib.ListN.{length-replicate}
+use Rattle.std.proofs.Common.{rules, ◌≡◌, sym, ◌∙◌, Err}
 use Rattle.policy.specs.Questions.{Accepted}
-use Rattle.words.specs.Laws.Known.{known_none}
-use Rattle.survey.proofs.Surveyed.{sofar_best}
-use Rattle.engine.specs.Calls.{choose_of}
+use Rattle.policy.specs.Laws.Refusals.{outcome_refuses}
+use Rattle.engine.specs.Calls.{Answer, choose_of}
 use Rattle.engine.specs.Laws.Decide.{best_found}
-use Rattle.engine.specs.Laws.Refusals.{answered, refused}
-use Rattle.engine.proofs.Answers.{accepted, chosen, sofar_none, sofar_chosen}
+use Rattle.engine.specs.Laws.Refusals.{answered}
+use Rattle.engine.proofs.Answers.{accepted, chosen, sofar_none, sofar_chosen, sofar_best}
 use Rattle.engine.proofs.choose.Goals as goal
 
-pub returns-then-refusal-ne0 : goal.returns-then-refusal-ne0
+pub returns-in_err-of_query : goal.returns-in_err-of_query
 unfolding choose_of
-returns-then-refusal-ne0 c = chosen _ _ (rw (← c.of_query-refusal.ensures) (sym (refused _ _ _ c.if-refusal-ne0.true)))
+returns-in_err-of_query c =
+    let is : ◌≡◌ {A = Answer} c.from_residual.result (Err c.in_err-of_query.field-0.0) = search rules in
+    chosen _ _ (is ∙ outcome_refuses _ _ (sym c.in_err-of_query.was ∙ c.of_query.ensures))
 
-pub prepare-plan-requires : goal.prepare-plan-requires
-prepare-plan-requires c = accepted _ _ c.of_query-refusal.ensures c.if-refusal-ne0.false
+pub new-words-requires : goal.new-words-requires
+new-words-requires c = accepted _ _ (sym c.in_ok-of_query.was ∙ c.of_query.ensures)
 
-pub survey-found-requires : goal.survey-found-requires
-survey-found-requires c =
-    record {
-      accepted = accepted _ _ c.of_query-refusal.ensures c.if-refusal-ne0.false;
-      planned = c.prepare-plan.ensures;
-      known = known_none _ _;
-      slim_len = length-replicate {A = ℕ} 1024 0;
-    }
-
-pub returns-then-found-eq0 : goal.returns-then-found-eq0
+pub returns-in_default : goal.returns-in_default
 unfolding choose_of Accepted
-returns-then-found-eq0 c =
-    chosen _ _ (sofar_none _ _ c.survey-found.ensures.so_far c.if-found-eq0.true
-    ∙ sym (answered _ _ _ (accepted _ _ c.of_query-refusal.ensures c.if-refusal-ne0.false)))
+returns-in_default c =
+    let found = rw (c.in_default.is, c.new-words.ensures.same_policy, c.new-words.ensures.same_query) at c.survey.ensures.so_far in
+    chosen _ _ (sofar_none _ _ found ∙ sym (answered _ _ _ (accepted _ _ (sym c.in_ok-of_query.was ∙ c.of_query.ensures))))
 
 -- the set found is the best, and so it is enough
 pub beside-requires : goal.beside-requires
 beside-requires c =
-    let ok = accepted c.args.policy c.args.query c.of_query-refusal.ensures c.if-refusal-ne0.false in
-    let enough = (best_found _ _ ok _ (sofar_best c.survey-found.ensures.so_far c.if-found-eq0.false)).enough in
-    record { accepted = ok; planned = c.prepare-plan.ensures; known = c.survey-found.ensures.known_2; enough = enough }
+    let ok = accepted _ _ (sym c.in_ok-of_query.was ∙ c.of_query.ensures) in
+    let found = rw (c.in-Some.is, c.new-words.ensures.same_policy, c.new-words.ensures.same_query) at c.survey.ensures.so_far in
+    rw (c.survey.ensures.same_plan, c.new-words.ensures.same_policy, c.new-words.ensures.same_query)
+    (best_found _ _ ok _ (sofar_best c.args.policy c.args.query found)).enough
 
 pub returns : goal.returns
 unfolding choose_of Accepted
 returns c =
-    chosen _ _ (sofar_chosen _ _ c.survey-found.ensures.so_far c.if-found-eq0.false c.beside.ensures
-    ∙ sym (answered _ _ _ (accepted _ _ c.of_query-refusal.ensures c.if-refusal-ne0.false)))
+    let found = rw (c.in-Some.is, c.new-words.ensures.same_policy, c.new-words.ensures.same_query) at c.survey.ensures.so_far in
+    let kept = rw (c.survey.ensures.same_plan, c.new-words.ensures.same_policy, c.new-words.ensures.same_query) at c.beside.ensures in
+    chosen _ _ (sofar_chosen _ _ found kept ∙ sym (answered _ _ _ (accepted _ _ (sym c.in_ok-of_query.was ∙ c.of_query.ensures))))

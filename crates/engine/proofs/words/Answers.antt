@@ -1,19 +1,19 @@
 -- `words` is refused, or works the model.
-use mathlib.Core.Path.{sym, ◌∙◌}
+use Rattle.std.proofs.Common.{sym, ◌∙◌}
+use Rattle.policy.specs.Laws.Refusals.{outcome_ok}
 use Rattle.engine.specs.Laws.Words.{word_accepted}
 use Rattle.engine.proofs.Answers.{words_refused, words_answered}
 use Rattle.engine.proofs.words.Goals as goal
 
-pub returns-then-refusal-ne0 : goal.returns-then-refusal-ne0
-returns-then-refusal-ne0 c = words_refused _ _ _ c.of_word-refusal.ensures c.if-refusal-ne0.true
+pub returns-in-Err : goal.returns-in-Err
+returns-in-Err c = words_refused _ _ _ (sym c.in-Err.is ∙ c.of_word.ensures) c.from.ensures
 
-pub prepare-plan-requires : goal.prepare-plan-requires
-prepare-plan-requires c = (word_accepted _ _ _ (sym c.of_word-refusal.ensures ∙ c.if-refusal-ne0.false)).0
+pub new-requires : goal.new-requires
+new-requires c = (word_accepted _ _ _ (outcome_ok _ (sym c.in_default.is ∙ c.of_word.ensures))).0
 
-pub model-requires : goal.model-requires
-model-requires c =
-    let known = word_accepted _ _ _ (sym c.of_word-refusal.ensures ∙ c.if-refusal-ne0.false) in
-    record { accepted = known.0; planned = c.prepare-plan.ensures; w_bound = known.1 }
+pub invariant_of-model : goal.invariant_of-model
+invariant_of-model c = record { within = (word_accepted _ _ _ (outcome_ok _ (sym c.in_default.is ∙ c.of_word.ensures))).1 }
 
 pub returns : goal.returns
-returns c = words_answered _ _ _ (sym c.of_word-refusal.ensures ∙ c.if-refusal-ne0.false) c.model.ensures
+returns c = words_answered _ _ _ (outcome_ok _ (sym c.in_default.is ∙ c.of_word.ensures))
+    (rw (c.new.ensures.same_policy, c.new.ensures.same_query) at c.model-word.ensures)

@@ -2,7 +2,8 @@
 use Rattle.std.specs.Prelude.{true, [], ◌∷◌, ◌≡◌, refl}
 use Rattle.std.proofs.Common.{inr, lit<}
 use Rattle.std.proofs.Math.Option.{some}
-use Rattle.base.specs.Every.{every, every_below, some_below}
+use Rattle.std.specs.List.{list_all}
+use Rattle.base.specs.Every.{every_below, some_below}
 use Rattle.mask.specs.Laws.{disjoint_iff}
 use Rattle.mask.specs.Family.{minimal, lightest, lighter}
 use Rattle.policy.specs.Questions.{first_no, questions, query_in_range, in_range, others_in_range, counts_in_range, level_in_range, action_in_range}
@@ -29,7 +30,7 @@ record Tested : Type 0 where
   done : enough chain (ask 0 1) 0 ≡ true
 
 tested : Tested
-unfolding chain every every_below some_below first_no questions query_in_range in_range others_in_range counts_in_range level_in_range action_in_range
+unfolding chain every_below some_below first_no questions query_in_range in_range others_in_range counts_in_range level_in_range action_in_range
     rule_in_range list_in_range lists_rise rule_rises rises levels_fit rule_levels_fit levels_below weights_fit outweighs heavier Accepted
     world_of world_in followed alsoes fired_of can_fire fires tried pass passes up_to cost_of weighed minimal lightest lighter
     best clears enough fired_for slim
@@ -60,7 +61,7 @@ pub record MarkedChain : Type 0 where
   pub done : Enough chain (ask 0 1) 0
 
 pub marked_chain : MarkedChain
-unfolding chain every world_of world_in followed alsoes fired_of can_fire fires tried pass passes up_to cost_of weighed fired_for steps
+unfolding chain world_of world_in followed alsoes fired_of can_fire fires tried pass passes up_to cost_of weighed fired_for steps
 marked_chain = record {
   reached = (follow {a = 1} (follow {a = 0} (start (inr tt)) (lit< tt) tt) (lit< tt) tt, refl);
   one_step = refl;

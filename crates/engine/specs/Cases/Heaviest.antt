@@ -1,7 +1,8 @@
 -- The bound of document 02's F-4 is reached: 16 actions of weight 65,535, all of which are needed.
 use Rattle.std.specs.Prelude.{true, ◌≡◌, refl}
 use Rattle.std.proofs.Common.{lit<}
-use Rattle.base.specs.Every.{every, every_below}
+use Rattle.std.specs.List.{list_all}
+use Rattle.base.specs.Every.{every_below}
 use Rattle.mask.specs.Laws.{disjoint_iff}
 use Rattle.policy.specs.Questions.{first_no, questions, query_in_range, in_range, others_in_range, counts_in_range, level_in_range, action_in_range}
 use Rattle.policy.specs.Questions.{rule_in_range, list_in_range, lists_rise, rule_rises, rises, levels_fit, rule_levels_fit, levels_below}
@@ -15,12 +16,12 @@ use Rattle.engine.specs.Calls.{clears, enough, fired_for}
 use Rattle.engine.specs.Cases.Decided.{is_enough}
 
 accepted : Accepted heaviest (ask 0 0)
-unfolding heaviest every every_below first_no questions query_in_range in_range others_in_range counts_in_range level_in_range action_in_range
+unfolding heaviest every_below first_no questions query_in_range in_range others_in_range counts_in_range level_in_range action_in_range
     rule_in_range list_in_range lists_rise rule_rises rises levels_fit rule_levels_fit levels_below weights_fit outweighs heavier Accepted
 accepted = refl
 
 tested : enough heaviest (ask 0 0) 65535 ≡ true
-unfolding heaviest every world_of world_in followed alsoes fired_of can_fire fires tried pass passes up_to clears enough fired_for
+unfolding heaviest world_of world_in followed alsoes fired_of can_fire fires tried pass passes up_to clears enough fired_for
 tested = refl
 
 pub record MarkedHeaviest : Type 0 where

@@ -1,8 +1,9 @@
 -- Document 01's run, computed from the definitions.
-use Rattle.std.specs.Prelude.{true, false, [], ◌∷◌, ◌≡◌, refl}
+use Rattle.std.specs.Prelude.{true, false, [], ◌∷◌, ◌≡◌, refl, Some, None, Ok}
 use Rattle.std.proofs.Math.Option.{none, some}
 use Rattle.std.specs.Int.Count.{ones, ones_in}
-use Rattle.base.specs.Every.{every, every_below, some_below}
+use Rattle.std.specs.List.{list_all}
+use Rattle.base.specs.Every.{every_below, some_below}
 use Rattle.mask.specs.Family.{among, minimal, lightest, lighter}
 use Rattle.policy.specs.Questions.{first_no, questions, query_in_range, in_range, others_in_range, counts_in_range, level_in_range, action_in_range}
 use Rattle.policy.specs.Questions.{rule_in_range, list_in_range, lists_rise, rule_rises, rises, levels_fit, rule_levels_fit, levels_below}
@@ -12,21 +13,20 @@ use Rattle.model.specs.World.{world_of, world_in, followed, alsoes}
 use Rattle.model.specs.Fire.{fired_of, can_fire, fires, tried, pass, passes, up_to}
 use Rattle.weight.specs.Cost.{cost_of, weighed}
 use Rattle.keep.specs.Keep.{found_or0, spoilt, keeps_off, keep_of}
-use Rattle.engine.specs.declared.Answer.TheVariants.{None, Chosen}
 use Rattle.engine.specs.Calls.{choose_of, answer, refused_or, best, clears, enough, fired_for, slim_sets, slim, keep_for}
 
 -- what the printed run says
 pub record Run : Type 0 where
-  pub first : choose_of sample (ask 0 0) ≡ Chosen (record { mask = 4; keep = 2; cost = 4; slim = 3 })
+  pub first : choose_of sample (ask 0 0) ≡ Ok (Some (record { mask = 4; keep = 2; cost = 4; slim = 3 }))
   pub first_list : slim_sets sample (ask 0 0) ≡ 1 ∷ 4 ∷ 8 ∷ []
   pub first_fired : fired_for sample (ask 0 0) 4 ≡ 1 ∷ 3 ∷ []
-  pub second : choose_of sample (ask 0 2) ≡ None
-  pub third : choose_of sample (ask 0 8) ≡ Chosen (record { mask = 0; keep = 2; cost = 0; slim = 1 })
+  pub second : choose_of sample (ask 0 2) ≡ Ok None
+  pub third : choose_of sample (ask 0 8) ≡ Ok (Some (record { mask = 0; keep = 2; cost = 0; slim = 1 }))
   pub third_list : slim_sets sample (ask 0 8) ≡ 0 ∷ []
   pub third_fired : fired_for sample (ask 0 8) 0 ≡ 0 ∷ 3 ∷ []
 
 pub run : Run
-unfolding sample every every_below some_below first_no questions query_in_range in_range others_in_range counts_in_range level_in_range action_in_range
+unfolding sample every_below some_below first_no questions query_in_range in_range others_in_range counts_in_range level_in_range action_in_range
     rule_in_range list_in_range lists_rise rule_rises rises levels_fit rule_levels_fit levels_below weights_fit outweighs heavier
     world_of world_in followed alsoes fired_of can_fire fires
     tried pass passes up_to cost_of weighed among minimal lightest lighter choose_of answer refused_or best clears
@@ -62,7 +62,7 @@ pub record Tested : Type 0 where
   pub k_cost : cost_of sample 2 ≡ 2
 
 pub tested : Tested
-unfolding sample every every_below some_below first_no questions query_in_range in_range others_in_range counts_in_range level_in_range action_in_range
+unfolding sample every_below some_below first_no questions query_in_range in_range others_in_range counts_in_range level_in_range action_in_range
     rule_in_range list_in_range lists_rise rule_rises rises levels_fit rule_levels_fit levels_below weights_fit outweighs heavier Accepted
     world_of world_in followed alsoes fired_of
     can_fire fires tried pass passes up_to cost_of weighed minimal lightest lighter best clears enough fired_for slim

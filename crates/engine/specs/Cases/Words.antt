@@ -1,6 +1,7 @@
 -- The words of document 01's run, computed from the definitions.
 use Rattle.std.specs.Prelude.{◌∷◌, ◌≡◌, refl, replicate}
-use Rattle.base.specs.Every.{every, every_below, some_below}
+use Rattle.std.specs.List.{list_all}
+use Rattle.base.specs.Every.{every_below, some_below}
 use Rattle.base.specs.Lists.{table}
 use Rattle.mask.specs.Packed.{packed}
 use Rattle.policy.specs.Questions.{first_no, questions, query_in_range, in_range, others_in_range, counts_in_range, level_in_range, action_in_range}
@@ -23,7 +24,7 @@ pub record WordsOfRun : Type 0 where
   pub late : words_of sample (ask 0 0) 1024 ≡ record { refusal = 3; word = replicate 128 0 }
 
 pub words_of_run : WordsOfRun
-unfolding sample every every_below some_below packed table first_no questions query_in_range in_range others_in_range counts_in_range level_in_range
+unfolding sample every_below some_below packed table first_no questions query_in_range in_range others_in_range counts_in_range level_in_range
     action_in_range rule_in_range list_in_range lists_rise rule_rises rises levels_fit rule_levels_fit levels_below weights_fit outweighs heavier
     world_of world_in followed alsoes fired_of can_fire fires tried pass passes up_to bit_of word_of model_of refused_or clears enough fired_for
     word_questions words_of

@@ -1,6 +1,6 @@
 -- There are at most 12,870 slim sets: none is a subset of another, and there are at most 16 actions. At most 128 rules fire.
 use Prim.Native.Nat.{ℕ, zero, suc, ◌/◌, ◌^◌, ◌≤◌, zero-le}
-use Rattle.std.specs.Prelude.{Bool, true, false, List, [], ◌≡◌, refl, length, replicate}
+use Rattle.std.specs.Prelude.{Bool, true, false, List, [], ◌≡◌, refl, length, replicate, Ok, Err}
 use Rattle.std.proofs.Common.{sym, ◌∙◌, arith}
 use Rattle.std.proofs.Math.Decide.{ℕ_discrete}
 use Rattle.std.proofs.lemmas.List.{length-replicate}
@@ -12,6 +12,9 @@ use Rattle.mask.specs.Laws.Sperner.{Antichain, sperner, middle_few}
 use Rattle.mask.specs.Laws.Among.{among_counted}
 use Rattle.mask.specs.Laws.Minimal.{minimal_taken, minimal_least}
 use Rattle.policy.specs.declared.Policy.{Policy}
+use Rattle.policy.specs.declared.refusal.Refusal.TheVariants.{ListTooShort}
+use Rattle.policy.specs.Refusal.{number_of, refuse}
+use Rattle.policy.specs.Laws.Refusals.{number_of_refusal}
 use Rattle.policy.specs.declared.Query.{Query}
 use Rattle.policy.specs.Questions.{first_no, query_in_range, query_questions, Accepted}
 use Rattle.policy.specs.Laws.{accepted_range, first_no_few}
@@ -21,7 +24,6 @@ use Rattle.model.specs.Laws.Marks.{holds}
 use Rattle.model.specs.Laws.Strata.{stratified}
 use Rattle.model.specs.Laws.Levels.{good_up_to}
 use Rattle.engine.specs.declared.Firing.{Firing}
-use Rattle.engine.specs.declared.Listing.TheVariants.{Refused, Listed}
 use Rattle.engine.specs.Sets.{most_slim}
 use Rattle.engine.specs.Calls.{clears, slim, slim_sets, list_questions, list_of, fired_for, offer_questions, refused_or, fire_of}
 use Rattle.engine.specs.Laws.Refusals.{answered, refused, list_early, list_yes, offer_accepted}
@@ -45,7 +47,7 @@ module _ (p : Policy) (q : Query) (ok : Accepted p q) where
   few_slim = omega (arith, few_slim_of p q, middle_few p.actions (accepted_range p q ok).actions)
 
   -- so List is not refused where it is lent so many places or more
-  pub list_has_room : (places : ℕ) → most_slim ≤ places → list_of p q places ≡ Listed (length (slim_sets p q))
+  pub list_has_room : (places : ℕ) → most_slim ≤ places → list_of p q places ≡ Ok (length (slim_sets p q))
   unfolding list_of
   list_has_room places h = answered (first_no (list_questions p q places)) _ _ (list_yes p q places ok (omega (arith, few_slim)))
 
@@ -65,7 +67,7 @@ module _ (p : Policy) (q : Query) (ok : Accepted p q) where
       go false = zero-le
 
 -- so a list of so many places is never refused by 8, whatever the policy and the query
-pub never_eight : (p : Policy) (q : Query) (places : ℕ) → most_slim ≤ places → ¬ (list_of p q places ≡ Refused 8)
+pub never_eight : (p : Policy) (q : Query) (places : ℕ) → most_slim ≤ places → ¬ (list_of p q places ≡ Err ListTooShort)
 unfolding list_of Accepted
 never_eight p q places h e = elim (ℕ_discrete (first_no (query_questions p q)) 0) [
   | yes ok ↦
@@ -73,7 +75,9 @@ never_eight p q places h e = elim (ℕ_discrete (first_no (query_questions p q))
       let z : ◌≡◌ {A = ℕ} 0 1 = cc in omega arith
   | no other ↦
       let early = list_early p q places other in
-      let by = refused (first_no (list_questions p q places)) Refused (Listed (length (slim_sets p q))) (λ z. other (sym early ∙ z)) in
+      let by = refused (first_no (list_questions p q places)) refuse (Ok (length (slim_sets p q))) (λ z. other (sym early ∙ z)) in
+      let same : refuse {A = ℕ} (first_no (list_questions p q places)) ≡ Err ListTooShort = sym by ∙ e in
+      let first = number_of_refusal (first_no (list_questions p q places)) (λ z. other (sym early ∙ z)) (omega (arith, first_no_few p (query_in_range p q))) in
       let eighth : first_no (list_questions p q places) ≡ 8 = cc in
       omega (arith, first_no_few p (query_in_range p q))
 ]

@@ -1,16 +1,19 @@
 -- Where no rule has an unless entry, more actions do no harm.
-use Rattle.std.specs.Prelude.{ℕ, ◌<◌, false, not, ◌≡◌, T, eqb, take}
-use Rattle.std.proofs.Common.{inl, inr, ⊎_elim, subst, T_not, eqb→eq}
+use Rattle.std.specs.Prelude.{ℕ, ◌<◌, false, not, true, ◌≡◌, T, eqb, take, length, get_or}
+use Rattle.std.proofs.Common.{inl, inr, ⊎_elim, subst, sym, ap, arith, ne_eqb}
+use Rattle.std.proofs.Math.ListN.{get_or-eq_default}
+use Rattle.std.proofs.lemmas.List.{length-take, get_or-take}
+use Rattle.std.proofs.lemmas.List.Folds.{list_any_at}
 use mathlib.Core.List.Memᴰ
 use mathlib.Core.List.{List, Memᴰ}
-use Rattle.std.proofs.Math.Decide.{ℕ_discrete}
-use Rattle.std.proofs.Math.Dec.{not_T}
-use Rattle.base.specs.Laws.Tests.{fails, some_below_make}
+use Rattle.std.proofs.Math.Decide.{ℕ_discrete, dec_lt}
+use Rattle.base.specs.Laws.Tests.{not_both}
 use Rattle.mask.specs.Mask.{has, ◌⊆◌}
 use Rattle.policy.specs.declared.Policy.{Policy}
 use Rattle.policy.specs.declared.Query.{Query}
 use Rattle.policy.specs.Questions.{Accepted}
-use Rattle.policy.specs.Record.{rule_of, unless_of}
+use Rattle.policy.specs.declared.Rule.{Rule}
+use Rattle.policy.specs.Record.{no_rule, rule_of, rules_of, unless_of}
 use Rattle.model.specs.World.{world_of}
 use Rattle.model.specs.Derivation.{Derivation, Derivable}
 use Rattle.model.specs.Laws.Worlds.{reached_more, world_holds}
@@ -21,11 +24,17 @@ use Rattle.engine.specs.Keep.{NoUnless}
 -- where the test finds none, no rule has an unless entry
 pub no_unless : (p : Policy) → some_unless p ≡ false → NoUnless p
 unfolding some_unless
-no_unless p e k l = elim (ℕ_discrete (rule_of p k).unless.count 0) [
-  | yes z ↦ z
-  | no ne ↦ absurd (T_not (some_unless p) (fails (some_unless p) e)
-      (some_below_make (λ j. not (eqb (rule_of p j).unless.count 0)) p.rules k l (not_T (eqb (rule_of p k).unless.count 0)
-      (λ t. ne (eqb→eq (rule_of p k).unless.count 0 t)))))
+no_unless p e k l = elim (dec_lt k (length p.rule)) [
+  | yes h ↦
+      let there : k < length (rules_of p) = omega (arith, length-take p.rules p.rule) in
+      let here : rule_of p k ≡ get_or (rules_of p) k no_rule = sym (get_or-take p.rules p.rule k no_rule l) in
+      elim (ℕ_discrete (rule_of p k).unless.count 0) [
+        | yes z ↦ z
+        | no ne ↦
+            let some : not (eqb (get_or (rules_of p) k no_rule).unless.count 0) ≡ true = rw (← here, ne_eqb (rule_of p k).unless.count 0 ne) in
+            absurd (not_both (list_any_at _ (rules_of p) k no_rule there some) e)
+      ]
+  | no h ↦ ap (λ (r : Rule). r.unless.count) (get_or-eq_default p.rule no_rule (omega arith))
 ]
 
 module _ (p : Policy) (none : NoUnless p) where

@@ -1,6 +1,6 @@
 -- The words of sixty-four sets say what Judge says of each set, with the word's decision as want.
 use Prim.Native.Nat.{ℕ, zero, suc, ◌^◌, ◌≤◌, ◌<◌}
-use Rattle.std.specs.Prelude.{Bool, false, ◌&&◌, ◌≡◌, ltb, get_or}
+use Rattle.std.specs.Prelude.{Bool, false, ◌&&◌, ◌≡◌, ltb, get_or, Ok}
 use Rattle.std.proofs.Math.Bool.{and-true, and-false}
 use Rattle.std.proofs.Math.Path.{refl, sym, ap, subst}
 use Rattle.std.proofs.Common.{◌∙◌, arith, lt→ltb}
@@ -24,7 +24,6 @@ use Rattle.columns.specs.Laws.Columns.{none_set}
 use Rattle.words.specs.Models.{asking, bit_of, word_of, model_of}
 use Rattle.words.specs.Laws.Worked.{model_at}
 use Rattle.engine.specs.declared.WordModel.{WordModel}
-use Rattle.engine.specs.declared.Verdict.TheVariants.{Judged}
 use Rattle.engine.specs.Sets.{Offered}
 use Rattle.engine.specs.Calls.{refused_or, enough, clears}
 use Rattle.engine.specs.Words.{word_questions, words_of, SaysWords, SixtyFour}
@@ -104,7 +103,7 @@ module _ (p : Policy) (q : Query) where
           let offer : Offered p (asking q d) s = record { set = o.set; apart = o.apart } in
           let is = bit_enough d i h (omega (arith, (accepted_range p q ok).decisions)) k o in
           let means = enough_iff p (asking q d) fine s offer in (
-            judge_is p (asking q d) fine s offer ∙ ap (λ (b : Bool). Judged (record { enough = b; cost = cost_of p s })) (sym is),
+            judge_is p (asking q d) fine s offer ∙ ap (λ (b : Bool). Ok (record { enough = b; cost = cost_of p s })) (sym is),
             (λ t. means.0 (subst T is t), λ t. subst T (sym is) (means.1 t)),
           );
       shut = λ d i k n. elim (dec_lt d 128) [

@@ -6,7 +6,7 @@ use Rattle.std.proofs.Math.Logic.{inl, inr}
 use Rattle.std.proofs.Math.ListN.{get_or, get_or-append}
 use Rattle.std.proofs.Math.Dec.{not_T}
 use Rattle.std.proofs.Math.Facts.{and_yes, yes_and, or_yes, eqb_yes, eqb_no, yes_eqb, no_eqb, leb_yes, yes_leb}
-use Rattle.base.specs.Every.{every}
+use Rattle.std.specs.List.{list_all}
 use Rattle.base.specs.Laws.Tests.{parts, or_left, or_right, between_iff, every_both}
 use Rattle.format.specs.Text.{decimal, decimal_by}
 use Rattle.format.specs.Format.{is_digit, is_number, spelt}
@@ -44,7 +44,7 @@ digits_ind P one more (suc fuel) n h =
 -- what the digits of n are
 record Digits (n : ℕ) (c : List ℕ) : Type 0 where
   spell : spelt 0 c ≡ n
-  digits : T (every is_digit c)
+  digits : T (list_all is_digit c)
   some : 0 < length c
   leads : 0 < n → 48 < get_or c 0 0
 
@@ -55,7 +55,7 @@ digit d h = (between_iff 48 (48 + d) 57).1 (omega arith, omega arith)
 
 -- one more digit
 one_more : (n : ℕ) (c : List ℕ) → 10 ≤ n → Digits (n / 10) c → Digits n (c ++ ((48 + n % 10) ∷ []))
-unfolding spelt every
+unfolding spelt
 one_more n c h d =
     record {
       spell = spelt_append 0 c ((48 + n % 10) ∷ []) ∙ rw d.spell (omega arith);
@@ -66,7 +66,7 @@ one_more n c h d =
 
 -- the digits of every number that the fuel is enough for
 decimal_by_digits : (fuel n : ℕ) → n < 10 ^ suc fuel → Digits n (decimal_by fuel n)
-unfolding spelt every
+unfolding spelt
 decimal_by_digits =
     digits_ind Digits
     (λ n h. record {
@@ -89,17 +89,16 @@ decimal_by_length (suc fuel) (suc k) n h =
     ]
 
 -- digits hold no byte that is no digit
-pub digits_only : (x : ℕ) → T (not (is_digit x)) → (c : List ℕ) → T (every is_digit c) → T (every (λ b. not (eqb b x)) c)
-unfolding every
+pub digits_only : (x : ℕ) → T (not (is_digit x)) → (c : List ℕ) → T (list_all is_digit c) → T (list_all (λ b. not (eqb b x)) c)
 digits_only x other [] t = tt
 digits_only x other (b ∷ c) t =
-    let both = and_yes (is_digit b) (every is_digit c) t in
+    let both = and_yes (is_digit b) (list_all is_digit c) t in
     yes_and (not (eqb b x)) _ (not_T (eqb b x) (λ same. T_not (is_digit x) other (subst (λ y. T (is_digit y)) (eqb_yes same) both.0)))
     (digits_only x other c both.1)
 
 -- the four parts of a number's test
 pub record IsNumber (c : List ℕ) : Type 0 where
-  pub digits : T (every is_digit c)
+  pub digits : T (list_all is_digit c)
   pub some : 0 < length c
   pub few : length c ≤ 5
   pub leads : (length c ≡ 1) ⊎ (get_or c 0 0 ≢ 48)
@@ -140,7 +139,7 @@ module _ (n : ℕ) (h : n < 100000) where
   decimal_some = (decimal_by_digits 9 n (omega arith)).some
 
   -- are digits
-  pub decimal_digits : T (every is_digit (decimal n))
+  pub decimal_digits : T (list_all is_digit (decimal n))
   unfolding decimal
   decimal_digits = (decimal_by_digits 9 n (omega arith)).digits
 
@@ -165,12 +164,12 @@ unfolding is_digit
 digit_range b t = (between_iff 48 b 57).0 t
 
 -- digits after those of a number v that is not 0 are the digits of what they spell
-further_digits : (c : List ℕ) (fuel more v : ℕ) → more ≡ fuel + length c → 0 < v → T (every is_digit c)
+further_digits : (c : List ℕ) (fuel more v : ℕ) → more ≡ fuel + length c → 0 < v → T (list_all is_digit c)
     → decimal_by more (spelt v c) ≡ decimal_by fuel v ++ c
-unfolding spelt every
+unfolding spelt
 further_digits [] fuel more v e h t = rw (append-nil, e) (ap (λ k. decimal_by k v) (omega arith))
 further_digits (b ∷ c) fuel more v e h t =
-    let both = and_yes (is_digit b) (every is_digit c) t in
+    let both = and_yes (is_digit b) (list_all is_digit c) t in
     let range = digit_range b both.0 in
     let tenth : (v * 10 + (b - 48)) / 10 ≡ v = omega arith in
     let last : 48 + (v * 10 + (b - 48)) % 10 ≡ b = omega arith in
@@ -179,7 +178,7 @@ further_digits (b ∷ c) fuel more v e h t =
 
 -- a number is the digits of what it spells
 pub number_decimal : (c : List ℕ) → T (is_number c) → c ≡ decimal (spelt 0 c)
-unfolding decimal spelt every
+unfolding decimal spelt
 number_decimal c t = go c (number_parts c t)
   where
     alone : (fuel b : ℕ) → T (is_digit b) → decimal_by fuel (0 + (b - 48)) ≡ b ∷ []
@@ -191,7 +190,7 @@ number_decimal c t = go c (number_parts c t)
     go [] p = absurd (omega arith)
     go (b ∷ []) p = sym (alone 9 b (and_yes (is_digit b) true p.digits).0)
     go (b ∷ (d ∷ c)) p =
-        let both = and_yes (is_digit b) (every is_digit (d ∷ c)) p.digits in
+        let both = and_yes (is_digit b) (list_all is_digit (d ∷ c)) p.digits in
         let range = digit_range b both.0 in
         let first : b ≢ 48 = ⊎_elim (λ one. absurd (omega arith)) (λ other. other) p.leads in
         sym (further_digits (d ∷ c) (9 - length (d ∷ c)) 9 (0 + (b - 48)) (omega arith) (omega arith) both.1

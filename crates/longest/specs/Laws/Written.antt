@@ -1,7 +1,7 @@
 -- The record is accepted, so that its file is short and is read back as the same record.
 use Rattle.std.specs.Prelude.{ℕ, ◌≤◌, ◌<◌, Bool, true, ◌&&◌, ◌≡◌, refl, T, eqb, length, take}
 use Rattle.std.proofs.Common.{◌∙◌, arith, eqb→eq}
-use Rattle.base.specs.Every.{every}
+use Rattle.std.specs.List.{list_all}
 use Rattle.base.specs.Laws.Tests.{and_make, and_left, and_right, entry_at}
 use Rattle.base.specs.Lists.{filled}
 use Rattle.policy.specs.declared.Rule.{Rule}
@@ -28,8 +28,8 @@ use Rattle.text.specs.Laws.Handed.{only_fits}
 eights : Rule → Bool
 eights r = eqb (length r.ifs.at) 8 && eqb (length r.unless.at) 8
 
-all_eights : T (every eights (take at_least.rules at_least.rule))
-unfolding eights every at_least record_of decisions_of filled decisions_to number without fewer having first_for rules_for row rows
+all_eights : T (list_all eights (take at_least.rules at_least.rule))
+unfolding eights at_least record_of decisions_of filled decisions_to number without fewer having first_for rules_for row rows
 all_eights = tt
 
 rules_long : length at_least.rule ≡ 256
@@ -51,7 +51,7 @@ sized = record { levels = refl; actions = refl; rules = rules_long; lists = list
 
 -- ---- questions 3 to 6 are answered yes
 given : Answers at_least (query_in_range at_least eight) → T (queries_in_range at_least stated.queries)
-unfolding queries_in_range every stated reading_of filled
+unfolding queries_in_range stated reading_of filled
 given known = and_make (query_in_range at_least eight) true known.given tt
 
 answers : AllYes (record_questions at_least stated.queries)

@@ -1,35 +1,27 @@
 -- `reprice` meets its contract: one line, or the text of each query.
-use mathlib.Core.Path.{◌≡◌, sym, ◌∙◌}
-use borrow.Author.Rules.{rules}
-use lib.ListN.{length}
-use Rattle.policy.specs.Record.{zero_query}
-use Rattle.text.specs.Laws.Handed.{each_over, each_put}
-use Rattle.pairs.proofs.Read.{of_refused, of_apart, of_queries}
+use Rattle.std.proofs.Common.{sym, ◌∙◌}
+use Rattle.pairs.specs.Texts.{apart_text}
+use Rattle.pairs.proofs.Read.{some_refused, none_refused, of_refused, of_apart, queries_over, query_put}
 use Rattle.pairs.proofs.reprice.Goals as goal
 
-pub returns-then-number-ne0 : goal.returns-then-number-ne0
-returns-then-number-ne0 c =
-    of_refused _ _ c.read-first.ensures.value c.read-second.ensures.value _ _ _ _ c.refusal-number.ensures
-    c.if-number-ne0.true c.refused.ensures
+pub returns-in-Some : goal.returns-in-Some
+returns-in-Some c =
+    let number = some_refused _ (sym c.in-Some.is ∙ c.refusal.ensures) in
+    of_refused _ _ c.read-first.ensures.value c.read-second.ensures.value _ _ number.0 number.1 c.only.ensures
 
 pub returns-then-not-comparable : goal.returns-then-not-comparable
+unfolding apart_text
 returns-then-not-comparable c =
-    of_apart _ _ c.read-first.ensures.value c.read-second.ensures.value _ _ _ _
-    (sym c.refusal-number.ensures ∙ c.if-number-ne0.false)
-    (sym c.comparable.ensures.value ∙ c.if-not-comparable.true) c.apart.ensures
+    of_apart _ _ c.read-first.ensures.value c.read-second.ensures.value _ _ (none_refused _ c.refusal.ensures c.in_default.not-Some)
+    (sym c.comparable.ensures.value ∙ c.if-not-comparable.true) c.only-then-not-comparable.ensures
 
-pub returns-then-i-count : goal.returns-then-i-count
-returns-then-i-count c =
-    let long : length c.read-first.result.queries.at ≡ 64 = search rules in
-    of_queries _ _ c.read-first.ensures.value c.read-second.ensures.value _ _ _ _
-    (sym c.refusal-number.ensures ∙ c.if-number-ne0.false)
-    (sym c.comparable.ensures.value ∙ c.if-not-comparable.false)
-    (each_over _ _ _ long c.smaller-count.ensures _ _ c.if-i-count.true)
+pub returns-in_err-get : goal.returns-in_err-get
+returns-in_err-get c =
+    rw c.from_residual.ensures
+    (queries_over _ _ c.read-first.ensures.value c.read-second.ensures.value _ _ (none_refused _ c.refusal.ensures c.in_default.not-Some)
+    (sym c.comparable.ensures.value ∙ c.if-not-comparable.false) c.asked.ensures c.in_err-get.ensures.lookup)
 
 pub returns : goal.returns
 returns c =
-    let long : length c.read-first.result.queries.at ≡ 64 = search rules in
-    of_queries _ _ c.read-first.ensures.value c.read-second.ensures.value _ _ _ _
-    (sym c.refusal-number.ensures ∙ c.if-number-ne0.false)
-    (sym c.comparable.ensures.value ∙ c.if-not-comparable.false)
-    (each_put _ _ _ long c.smaller-count.ensures _ _ zero_query c.if-i-count.false c.put_query.ensures)
+    query_put _ _ c.read-first.ensures.value c.read-second.ensures.value _ _ (none_refused _ c.refusal.ensures c.in_default.not-Some)
+    (sym c.comparable.ensures.value ∙ c.if-not-comparable.false) c.asked.ensures c.in_ok-get.field-0 c.in_ok-get.ensures.lookup c.start.ensures

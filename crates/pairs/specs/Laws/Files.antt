@@ -1,10 +1,10 @@
 -- What `reprice` prints for two files is what the call returns for each query of the first.
-use Rattle.std.specs.Prelude.{ℕ, ◌≤◌, ◌<◌, true, false, ◌&&◌, List, [], ◌∷◌, map, ◌≢◌, ◌≡◌, refl, leb, length, take}
+use Rattle.std.specs.Prelude.{Some, None, Ok, ℕ, ◌≤◌, ◌<◌, true, false, ◌&&◌, List, [], ◌∷◌, map, ◌≢◌, ◌≡◌, refl, leb, length, take}
 use Rattle.std.proofs.Common.{ap, ◌∙◌, arith, length-take, get_or-take}
 use Rattle.std.proofs.Math.Path.{subst}
 use Rattle.std.proofs.Math.Dec.{T}
 use Rattle.std.proofs.lemmas.List.{length-map}
-use Rattle.base.specs.Every.{every}
+use Rattle.std.specs.List.{list_all}
 use Rattle.base.specs.Laws.Tests.{is_true, is_false}
 use Rattle.policy.specs.declared.Policy.{Policy}
 use Rattle.policy.specs.declared.Query.{Query}
@@ -16,7 +16,7 @@ use Rattle.engine.specs.Laws.Means.{record_means}
 use Rattle.engine.specs.Laws.Refusals.{answered, refused}
 use Rattle.alike.specs.Comparable.{Comparable, comparable}
 use Rattle.alike.specs.Laws.{comparable_iff}
-use Rattle.repricing.specs.declared.Repriced.TheVariants.{NotComparable, Compared}
+use Rattle.policy.specs.Laws.Refusals.{outcome_none}
 use Rattle.repricing.specs.Call.{prices, reprice_of}
 use Rattle.text.specs.Put.{refused_text}
 use Rattle.text.specs.Handing.{text_at}
@@ -39,15 +39,15 @@ queries_same : (p p' : Policy) (qs : Queries) → p.decisions ≡ p'.decisions �
     → queries_in_range p qs ≡ queries_in_range p' qs
 unfolding queries_in_range query_in_range
 queries_same p p' qs decisions actions =
-    λ i. leb qs.count most_queries && every (is_query (decisions i) (actions i)) (take qs.count qs.at)
+    λ i. leb qs.count most_queries && list_all (is_query (decisions i) (actions i)) (take qs.count qs.at)
 
 -- what the call returns where both policies are accepted with the query
 module _ (p p' : Policy) (q : Query) (ok : Accepted p q) (ok' : Accepted p' q) where
-  call_compared : comparable p p' ≡ true → reprice_of p p' q ≡ Compared (prices p p' q)
+  call_compared : comparable p p' ≡ true → reprice_of p p' q ≡ Ok (Some (prices p p' q))
   unfolding reprice_of Accepted
   call_compared e = rw e (answered _ _ _ ok ∙ answered _ _ _ ok')
 
-  call_apart : comparable p p' ≡ false → reprice_of p p' q ≡ NotComparable
+  call_apart : comparable p p' ≡ false → reprice_of p p' q ≡ Ok None
   unfolding reprice_of Accepted
   call_apart e = rw e (answered _ _ _ ok ∙ answered _ _ _ ok')
 
@@ -94,7 +94,7 @@ module _ (s s' : List ℕ) where
       first_accepted = query_accepted (states s ok) i h
 
       second_accepted : check_record_of (new s s') r.queries ≡ 0 → Accepted (new s s') (query_of r i)
-      second_accepted e = ((record_means (new s s') r.queries).0 e).2 i h
+      second_accepted e = ((record_means (new s s') r.queries).0 (outcome_none _ e)).2 i h
 
     few : count s s' ≤ length r.queries.at
     few =

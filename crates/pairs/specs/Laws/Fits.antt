@@ -1,13 +1,12 @@
 -- No text of two files is longer than 64 bytes, and they have no more than 64.
-use Rattle.std.specs.Prelude.{ℕ, ◌≤◌, Bool, List, [], ◌∷◌, map, ◌≡◌, length, take}
+use Rattle.std.specs.Prelude.{Some, None, ℕ, ◌≤◌, Bool, List, [], ◌∷◌, map, ◌≡◌, length, take}
 use Rattle.std.proofs.Math.Bool.{true, false}
 use Rattle.std.proofs.Common.{sym, ◌∙◌, arith, length-append, length-take}
 use Rattle.std.proofs.Math.Decide.{ℕ_discrete}
 use Rattle.std.proofs.lemmas.List.{length-map}
 use Rattle.engine.specs.Laws.Refusals.{answered, refused}
 use Rattle.alike.specs.Comparable.{comparable}
-use Rattle.repricing.specs.declared.Price.{Price}
-use Rattle.repricing.specs.declared.Price.TheVariants.{None, Cost}
+use Rattle.repricing.specs.Call.{Price}
 use Rattle.repricing.specs.declared.Prices.{Prices}
 use Rattle.format.specs.Laws.Lengths.{ten_digits, line_length}
 use Rattle.text.specs.Put.{refused_text}
@@ -22,7 +21,7 @@ use Rattle.pairs.specs.Texts.{longest_prices, price_text, prices_text, query_tex
 price_length : (c : Price) → length (price_text c) ≤ 10
 unfolding price_text
 price_length None = omega arith
-price_length (Cost n) = ten_digits n
+price_length (Some n) = ten_digits n
 
 query_length : (want : ℕ) (c : Prices) → length (prices_text want c) ≤ longest_prices
 unfolding prices_text

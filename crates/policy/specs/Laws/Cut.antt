@@ -4,7 +4,7 @@ use mathlib.Core.List.{List, ◌∷◌, ◌++◌, map, Memᴰ}
 use Rattle.std.proofs.Common.{◌∙◌, ap, le_refl, take-take, get_or-take}
 use Rattle.std.proofs.Math.Dec.{T, ltb}
 use Rattle.std.proofs.Math.ListN.{get_or-map}
-use Rattle.base.specs.Every.{every}
+use Rattle.std.specs.List.{list_all}
 use Rattle.base.specs.Laws.Lists.{take_map}
 use Rattle.base.specs.Laws.Tests.{every_below_same, every_same, every_map, every_at, parts, and_left}
 use Rattle.policy.specs.declared.Policy.{Policy}
@@ -93,8 +93,8 @@ module _ (p : Policy) where
 
   -- a test of each rule
   rules_same : (f g : Rule → Bool) → ((r : Rule) → Memᴰ r (rules_of p) → f (cut_rule r) ≡ g r)
-      → every f (rules_of (cut p)) ≡ every g (rules_of p)
-  rules_same f g e = ap (every f) rules_cut ∙ every_map f cut_rule (rules_of p) ∙ every_same (λ r. f (cut_rule r)) g (rules_of p) e
+      → list_all f (rules_of (cut p)) ≡ list_all g (rules_of p)
+  rules_same f g e = ap (list_all f) rules_cut ∙ every_map f cut_rule (rules_of p) ∙ every_same (λ r. f (cut_rule r)) g (rules_of p) e
 
   -- question 3
   pub others_cut : others_in_range (cut p) ≡ others_in_range p
@@ -118,7 +118,7 @@ module _ (p : Policy) where
   fit_cut : T (in_range p) → levels_fit (cut p) ≡ levels_fit p
   unfolding levels_fit in_range others_in_range
   fit_cut t = rules_same (rule_levels_fit (levels_of p)) (rule_levels_fit p.level) (λ r m.
-      let fits : T (every (rule_in_range p.decisions p.actions) (rules_of p)) = search parts in
+      let fits : T (list_all (rule_in_range p.decisions p.actions) (rules_of p)) = search parts in
       rule_levels p.level p.decisions p.actions r
       (rule_fits p.decisions p.actions r (every_at (rule_in_range p.decisions p.actions) (rules_of p) fits r m)))
 

@@ -6,7 +6,7 @@ use Rattle.std.proofs.Math.ListN.{length, get_or}
 use Rattle.std.proofs.lemmas.List.{length-map}
 use Rattle.std.proofs.Math.Seq.{length-take-le}
 use Rattle.std.proofs.Math.Facts.{leb_yes}
-use Rattle.base.specs.Every.{every}
+use Rattle.std.specs.List.{list_all}
 use Rattle.base.specs.Lists.{filled}
 use Rattle.base.specs.Laws.All.{all_of, map_same}
 use Rattle.base.specs.Laws.Lists.{filled_length, filled_past, filled_of}
@@ -34,7 +34,7 @@ use Rattle.reader.specs.Laws.Back.{queries_few}
 module _ (n : ℕ) (l : Decisions) (fits : ReadableList n (listed l)) (clear : IsClear l) where
   list_few : length (listed l) ≤ 8
   unfolding ReadableList is_list
-  list_few = leb_yes (and_left (leb (length (listed l)) 8) (every (is_decision n) (listed l)) fits.0)
+  list_few = leb_yes (and_left (leb (length (listed l)) 8) (list_all (is_decision n) (listed l)) fits.0)
 
   list_full : length l.at ≡ 8
   unfolding IsClear decisions_of

@@ -1,17 +1,11 @@
 -- `least_cost` meets its contract.
-use mathlib.Core.Path.{sym, ◌∙◌}
-use Rattle.repricing.specs.Call.{price_in}
+use Rattle.std.proofs.Common.{rules, ◌≡◌, ◌∙◌, ap}
+use Rattle.std.specs.Option.{option_map, option_flatten}
+use Rattle.engine.specs.declared.Choice.{Choice}
 use Rattle.repricing.proofs.Answers.{priced}
 use Rattle.repricing.proofs.least_cost.Goals as goal
 
-pub returns-in-Refused : goal.returns-in-Refused
-unfolding price_in
-returns-in-Refused c = priced _ _ (sym c.in-Refused.is ∙ c.choose.ensures.value)
-
-pub returns-in-None : goal.returns-in-None
-unfolding price_in
-returns-in-None c = priced _ _ (sym c.in-None.is ∙ c.choose.ensures.value)
-
-pub returns-in-Chosen : goal.returns-in-Chosen
-unfolding price_in
-returns-in-Chosen c = priced _ _ (sym c.in-Chosen.is ∙ c.choose.ensures.value)
+pub returns : goal.returns
+returns c =
+    let mapped : c.map.result ≡ option_map (λ (x : Choice). x.cost) c.flatten.result = search rules in
+    priced _ _ c.choose.ensures.value (mapped ∙ ap (option_map (λ (x : Choice). x.cost)) (c.flatten.ensures ∙ ap option_flatten c.ok.ensures.value))

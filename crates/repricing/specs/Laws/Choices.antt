@@ -1,5 +1,5 @@
 -- What is known of a choice: its set is enough and costs least, and where a set is enough there is a choice.
-use Rattle.std.specs.Prelude.{ℕ, ◌≤◌, ◌<◌, ◌⊎◌, ◌≡◌, length}
+use Rattle.std.specs.Prelude.{ℕ, ◌≤◌, ◌<◌, ◌⊎◌, ◌≡◌, length, Some, Ok}
 use Rattle.std.proofs.Common.{inl, inr, sym, ap, subst}
 use Rattle.std.proofs.Math.Decide.{ℕ_discrete}
 use Rattle.std.proofs.Math.Nat.{le_of_eq}
@@ -10,7 +10,6 @@ use Rattle.policy.specs.declared.Query.{Query}
 use Rattle.policy.specs.Questions.{Accepted}
 use Rattle.weight.specs.Cost.{cost_of}
 use Rattle.engine.specs.declared.Choice.{Choice}
-use Rattle.engine.specs.declared.Answer.TheVariants.{Chosen}
 use Rattle.engine.specs.Sets.{Enough, Best}
 use Rattle.engine.specs.Calls.{slim_sets, choose_of}
 use Rattle.engine.specs.Meaning.{Chooses}
@@ -35,18 +34,18 @@ module _ (p : Policy) (q : Query) where
       go (inl h) = omega arith
       go (inr h) = omega arith
 
-  pub known : (c : Choice) → choose_of p q ≡ Chosen c → Known c
-  known c e = let means : Chooses p q (Chosen c) = subst (Chooses p q) e (choose_means p q) in record {
+  pub known : (c : Choice) → choose_of p q ≡ Ok (Some c) → Known c
+  known c e = let means : Chooses p q (Ok (Some c)) = subst (Chooses p q) e (choose_means p q) in record {
     enough = means.1.enough;
     least = best_least c.mask means.1;
     cost = means.3;
     slim = means.4.1;
   }
 
-  pub chosen_where : Accepted p q → (s : ℕ) → Enough p q s → (c : Choice) × (choose_of p q ≡ Chosen c)
+  pub chosen_where : Accepted p q → (s : ℕ) → Enough p q s → (c : Choice) × (choose_of p q ≡ Ok (Some c))
   chosen_where ok s e = go (claim_holds p q ok).chosen
     where
-      go : ((t : ℕ) → Enough p q t → ⊥) ⊎ ((c : Choice) × (choose_of p q ≡ Chosen c) × Holds p q c)
-          → (c : Choice) × (choose_of p q ≡ Chosen c)
+      go : ((t : ℕ) → Enough p q t → ⊥) ⊎ ((c : Choice) × (choose_of p q ≡ Ok (Some c)) × Holds p q c)
+          → (c : Choice) × (choose_of p q ≡ Ok (Some c))
       go (inl f) = absurd (f s e)
       go (inr (c, h, holds)) = (c, h)

@@ -1,6 +1,6 @@
 -- What a repriced action can do: `Reprices` holds of every two accepted policies, the second of which is the first with a weight
 -- raised, whatever stands past their counts.
-use Rattle.std.specs.Prelude.{ℕ, ◌+◌, List, [], ◌∷◌, ◌↔◌, ◌≡◌, T, leb, length}
+use Rattle.std.specs.Prelude.{ℕ, ◌+◌, List, [], ◌∷◌, ◌↔◌, ◌≡◌, T, leb, length, Some, None, Ok, Err}
 use Rattle.std.proofs.Math.Path.{refl, subst}
 use Rattle.std.proofs.Common.{sym, ap, ◌∙◌, arith}
 use Rattle.policy.specs.declared.Policy.{Policy}
@@ -10,10 +10,8 @@ use Rattle.policy.specs.Questions.{Question, first_no, query_in_range, query_que
 use Rattle.policy.specs.Laws.{first_no_append, all_yes_lem}
 use Rattle.weight.specs.Cost.{cost_of}
 use Rattle.engine.specs.declared.Choice.{Choice}
-use Rattle.engine.specs.declared.Answer.{Answer}
-use Rattle.engine.specs.declared.Answer.TheVariants.{Refused, None, Chosen}
 use Rattle.engine.specs.Sets.{Enough, Slim}
-use Rattle.engine.specs.Calls.{clears, slim_sets, list_questions, choose_of, list_of, list_after}
+use Rattle.engine.specs.Calls.{Answer, clears, slim_sets, list_questions, choose_of, list_of, list_after}
 use Rattle.engine.specs.Meaning.{Judges, Chooses}
 use Rattle.engine.specs.Same.{SameAnswers}
 use Rattle.engine.specs.Laws.{claim_holds}
@@ -108,11 +106,11 @@ module _ (p p' : Policy) (agree : Agree p p') (q : Query) where
   agree_accepted ok' = go (choose_of p q) refl (choose_means p q)
     where
       go : (x : Answer) → choose_of p q ≡ x → Chooses p q x → Accepted p q
-      go (Refused n) e (first, ne) =
-          let there : Chooses p' q (Refused n) = subst (Chooses p' q) (sym same.choose ∙ e) (choose_means p' q) in
+      go (Err n) e (first, ne) =
+          let there : Chooses p' q (Err n) = subst (Chooses p' q) (sym same.choose ∙ e) (choose_means p' q) in
           absurd (ne (sym there.0 ∙ ok'))
-      go None e h = h.0
-      go (Chosen c) e h = h.0
+      go (Ok None) e h = h.0
+      go (Ok (Some c)) e h = h.0
 
   -- Judge says the same of every offered set
   agree_enough : Accepted p q → (s : ℕ) → Enough p q s → Enough p' q s

@@ -5,7 +5,7 @@ use mathlib.Core.List.{List, [], ◌∷◌}
 use Rattle.std.proofs.Math.Path.{refl, sym}
 use Rattle.std.proofs.Common.{subst, ◌∙◌}
 use Rattle.std.specs.Int.Bits.{bit_and}
-use Rattle.base.specs.Every.{every}
+use Rattle.std.specs.List.{list_all}
 use Rattle.base.specs.Laws.Tests.{and_make, and_left, and_right}
 use Rattle.mask.specs.Mask.{has}
 use Rattle.mask.specs.Laws.{has_and, has_none, ⊆→<, ⊆_antisym}
@@ -18,16 +18,16 @@ use Rattle.settle.specs.Right.{bit}
 module _ (held : List ℕ) (i : ℕ) where
   -- an operation that keeps a set where the word says g
   folded_bit : (f : ℕ → ℕ → ℕ) (g : Bool → Bool) → ((a b : ℕ) → has (f a b) i ≡ (has a i && g (has b i)))
-      → (word : ℕ) (ds : List ℕ) → has (folded f held word ds) i ≡ (has word i && every (λ d. g (bit held i d)) ds)
-  unfolding folded every
+      → (word : ℕ) (ds : List ℕ) → has (folded f held word ds) i ≡ (has word i && list_all (λ d. g (bit held i d)) ds)
+  unfolding folded
   folded_bit f g e word [] = sym (and-true (has word i))
   folded_bit f g e word (d ∷ ds) = folded_bit f g e (f word (get_or held d 0)) ds
-      ∙ rw (e word (get_or held d 0)) (and_assoc (has word i) (g (bit held i d)) (every (λ c. g (bit held i c)) ds))
+      ∙ rw (e word (get_or held d 0)) (and_assoc (has word i) (g (bit held i d)) (list_all (λ c. g (bit held i c)) ds))
 
-  all_bit : (word : ℕ) (ds : List ℕ) → has (all_of held word ds) i ≡ (has word i && every (bit held i) ds)
+  all_bit : (word : ℕ) (ds : List ℕ) → has (all_of held word ds) i ≡ (has word i && list_all (bit held i) ds)
   all_bit = folded_bit bit_and (λ b. b) (λ a b. has_and a b i)
 
-  none_bit : (word : ℕ) (ds : List ℕ) → has (none_of held word ds) i ≡ (has word i && every (λ d. not (bit held i d)) ds)
+  none_bit : (word : ℕ) (ds : List ℕ) → has (none_of held word ds) i ≡ (has word i && list_all (λ d. not (bit held i d)) ds)
   none_bit = folded_bit minus not (λ a b. has_minus a b i)
 
   -- the four tests of a rule: it is enabled, its head is not held, all its ifs are, and none of its unless
@@ -39,10 +39,10 @@ module _ (held : List ℕ) (i : ℕ) where
     fresh = not (bit held i r.head)
 
     abbrev given : Bool
-    given = every (bit held i) (listed r.ifs)
+    given = list_all (bit held i) (listed r.ifs)
 
     abbrev clear : Bool
-    clear = every (λ d. not (bit held i d)) (listed r.unless)
+    clear = list_all (λ d. not (bit held i d)) (listed r.unless)
 
     -- all four pass
     pub record Adds : Type 0 where

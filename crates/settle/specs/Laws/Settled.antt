@@ -6,6 +6,7 @@ use Rattle.policy.specs.declared.Query.{Query}
 use Rattle.policy.specs.Questions.{Accepted}
 use Rattle.policy.specs.Record.{rule_of}
 use Rattle.order.specs.Order.{lev, Ordered}
+use Rattle.order.specs.Laws.{stands_at}
 use Rattle.settle.specs.Words.{added_of}
 use Rattle.settle.specs.Right.{Right, Enables, Enabling}
 use Rattle.settle.specs.Laws.Right.{right_level}
@@ -35,7 +36,7 @@ module _ (p : Policy) (q : Query) (ok : Accepted p q) (w sets : ℕ) {order star
   pub level_settled : {held : List ℕ} → Right p q w sets n held → Quiet p order (get_or start n 0) (get_or start (n + 1) 0) words held
       → Right p q w sets (n + 1) held
   level_settled {held} good quiet = subst (λ (m : ℕ). Right p q w sets m held) (sym (add-one n)) (right_level p q ok w sets good (λ k e l.
-      let found = sorted.covers n k h e l in
+      let found = stands_at order (get_or start n 0) (get_or start (suc n) 0) k p.rules (sorted.covers n k h e l) in
       let j : ℕ = found.0 in (
         get_or words j 0,
         subst (λ (x : ℕ). Enables p q w sets x (get_or words j 0)) found.3

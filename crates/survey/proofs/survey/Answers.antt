@@ -1,79 +1,42 @@
 -- `survey` goes through the words in rising order: those below are right, and so is the next.
-use Prim.Native.Nat.{ℕ, ◌*◌, ◌^◌, ◌≤◌, ◌<◌, zero-le}
-use mathlib.Core.Path.{◌≡◌, ◌∙◌, subst}
-use native.Mathlib.Omega.{arith}
-use borrow.Author.Rules.{rules}
-use lib.ListN.{length, length-replicate}
-use Rattle.mask.specs.Family.{minimal}
-use Rattle.policy.specs.declared.Policy.{Policy}
-use Rattle.policy.specs.declared.Query.{Query}
-use Rattle.policy.specs.Questions.{Accepted}
+use Rattle.std.proofs.Common.{ℕ, ◌<◌, ◌∙◌, refl, arith}
+use Rattle.std.proofs.lemmas.List.{length-replicate}
 use Rattle.policy.specs.Laws.{accepted_range}
-use Rattle.weight.specs.Cost.{cost_of}
-use Rattle.words.specs.Known.{Known}
-use Rattle.words.specs.Laws.Known.{known_more}
-use Rattle.covers.specs.Covers.{word_count, Marks, Table, Members}
-use Rattle.covers.specs.Laws.Marks.{table_none, table_more, table_next}
+use Rattle.covers.specs.Laws.Marks.{words_few, table_none, table_more, table_next}
 use Rattle.covers.specs.Laws.Slim.{slim_word}
-use Rattle.survey.specs.Survey.{family}
-use Rattle.survey.specs.Laws.Slims.{members_none, members_wanted}
-use Rattle.survey.proofs.Surveyed.{words_few, weighed_none, weighed_few, weighed_at, weighed_all}
-use Rattle.survey.proofs.survey.Goals.{then-low, else-low}
+use Rattle.survey.proofs.Surveyed.{weighed_none, weighed_at, weighed_all}
 use Rattle.survey.proofs.survey.Goals as goal
 
-pub words_of-count-requires : goal.words_of-count-requires
-words_of-count-requires c = omega (arith, (accepted_range _ _ c.requires.accepted).actions)
-
 pub loop-n-init : goal.loop-n-init
-loop-n-init c =
-    (table_none (length-replicate {A = ℕ} 1024 0), table_none c.requires.slim_len, weighed_none _ _, zero-le, c.requires.known)
+loop-n-init c = record {
+  same = refl;
+  covered = table_none (length-replicate {A = ℕ} 1024 0);
+  slim = table_none c.told-slim;
+  found = weighed_none _ _;
+}
 
--- the word in hand is one of 1,024
-small : (p : Policy) (q : Query) {n count : ℕ} → Accepted p q → count ≡ word_count p.actions → n < count → n < 1024
-small p q ok counted h = omega (arith, counted, h, words_few p q ok)
-
-pub weigh-found-requires-clause-slim_bound : goal.weigh-found-requires-clause-slim_bound
-weigh-found-requires-clause-slim_bound c = weighed_few c.loop-n.invariant.2
-
--- the members among the sets of the word in hand
-members : (c : goal.After-weigh-found) → Members (family c.args.policy c.args.query) c.loop-n.n c.low-low.result c.if-low.members
-members c =
-    elim c.if-low.branch [
-      | then-low w ↦ members_none _ _ _ _ _ w.if-low.true w.members-is
-      | else-low w ↦ members_wanted _ _ c.requires.accepted _ _ _ (w.members-is ∙ w.wanted-word.ensures)
-    ]
-
--- what is known once the word in hand is worked, or left out
-knows : (c : goal.After-weigh-found) → Known c.args.policy c.args.query c.if-low.cleared c.if-low.known
-knows c =
-    elim c.if-low.branch [
-      | then-low w ↦ rw (w.cleared-is, w.known-is) c.loop-n.invariant.4
-      | else-low w ↦
-          rw (w.cleared-is, w.known-is)
-          (known_more c.loop-n.invariant.4 _ _ (small _ _ c.requires.accepted c.words_of-count.ensures c.loop-n-test.true) w.wanted-word.ensures)
-    ]
+pub weigh-found-requires : goal.weigh-found-requires
+weigh-found-requires c =
+    let so = c.loop-n.invariant in
+    let below : c.loop-n.n < 1024 = omega (arith, c.words_of-n-end.ensures.count, words_few _ _ c.args.words.now.plan.accepted) in
+    let members = rw so.same at c.members.ensures.members in
+    rw (c.members.ensures.same_plan ∙ so.same)
+    (record { marks = slim_word so.covered below c.low-low.ensures members c.step-next.ensures.slim_value; surveyed = so.found })
 
 pub loop-n-preserved : goal.loop-n-preserved
-unfolding cost_of
 loop-n-preserved c =
-    let below = small _ _ c.requires.accepted c.words_of-count.ensures c.loop-n-test.true in
-    let slims : Marks (minimal (family c.args.policy c.args.query)) c.loop-n.n c.step-next.result.slim =
-    slim_word c.loop-n.invariant.0 below c.low-low.ensures (members c) c.step-next.ensures.slim_value in (
-      table_next c.loop-n.invariant.0 below c.low-low.ensures (members c) c.step-next.ensures.covered_value,
-      table_more c.loop-n.invariant.1 below slims,
-      weighed_at (c.weigh-found.ensures _ slims c.loop-n.invariant.2) (omega arith),
-      omega arith,
-      knows c,
-    )
-
-pub returns : goal.returns
-returns c =
-    let range = accepted_range _ _ c.requires.accepted in
-    let all : c.loop-n.n ≡ word_count c.args.policy.actions = omega (arith, c.loop-n.invariant.3, c.loop-n-test.false, c.words_of-count.ensures) in
-    let past : 2 ^ c.args.policy.actions ≤ 64 * c.loop-n.n = omega (arith, c.loop-n.invariant.3, c.loop-n-test.false, c.words_of-count.ensures) in
-    let long : length c.args.policy.action ≡ 16 = search rules in
+    let so = c.loop-n.invariant in
+    let below : c.loop-n.n < 1024 = omega (arith, c.words_of-n-end.ensures.count, words_few _ _ c.args.words.now.plan.accepted) in
+    let members = rw so.same at c.members.ensures.members in
+    let same = c.members.ensures.same_plan ∙ so.same in
     record {
-      so_far = weighed_all _ c.loop-n.invariant.2 past range (omega (arith, long, range.actions));
-      table = subst (λ (k : ℕ). Table (minimal (family c.args.policy c.args.query)) k c.loop-n.slim) all c.loop-n.invariant.1;
-      known_2 = c.loop-n.invariant.4;
+      same = same;
+      covered = table_next so.covered below c.low-low.ensures members c.step-next.ensures.covered_value;
+      slim = table_more so.slim below (slim_word so.covered below c.low-low.ensures members c.step-next.ensures.slim_value);
+      found = weighed_at (rw same at c.weigh-found.ensures) (omega arith);
     }
+
+pub returns-clause-so_far : goal.returns-clause-so_far
+returns-clause-so_far c =
+    weighed_all _ c.loop-n.invariant.found (omega (arith, c.words_of-n-end.ensures.count))
+    (accepted_range _ _ c.args.words.now.plan.accepted) c.words_of-n-end.ensures.full

@@ -1,8 +1,9 @@
 -- The survey by words: the sets that clear, and the minimal ones, which are the slim sets.
-use Rattle.std.specs.Prelude.{ℕ, ◌+◌, ◌-◌, ◌*◌, ◌/◌, ◌%◌, ◌^◌, ◌≤◌, ◌<◌, Bool, true, false, ◌&&◌, List, ◌≡◌, refl, T, ltb, get_or}
+use Rattle.std.specs.Prelude.{ℕ, ◌+◌, ◌-◌, ◌*◌, ◌/◌, ◌%◌, ◌^◌, ◌≤◌, ◌<◌, Bool, true, false, ◌&&◌, List, ◌≡◌, refl, T, ltb, get_or, length, take}
 use Rattle.std.proofs.Math.Bool.{not}
 use Rattle.std.proofs.Common.{sym, ◌∙◌, subst, arith, lt-ltb, T_not}
 use Rattle.std.proofs.Math.Path.{ap}
+use Rattle.std.proofs.lemmas.List.{get_or-take, length-take}
 use Rattle.std.proofs.Math.Dec.{ltb→lt}
 use Rattle.base.specs.Laws.Tests.{is_false, passes, some_below_same}
 use Rattle.mask.specs.Mask.{has, contains}
@@ -79,6 +80,18 @@ module _ (p : Policy) (q : Query) where
   slims_marked table so =
       among_same (marked_in table) (minimal (family p q)) (64 * word_count p.actions) (λ s h. table_marked so s h)
       ∙ slims_all (64 * word_count p.actions) (omega arith)
+
+  -- its words alone mark the same
+  pub words_marked : (table words : List ℕ) → Table (minimal (family p q)) (word_count p.actions) table → word_count p.actions ≤ 1024
+      → words ≡ take (word_count p.actions) table → among (marked_in words) (64 * length words) ≡ slim_sets p q
+  unfolding marked_in
+  words_marked table words so few front =
+      let n = word_count p.actions in
+      let count : length words ≡ n = omega (arith, so.size, ap length front, length-take n table) in
+      rw (count, front) (
+      among_same (marked_in (take n table)) (marked_in table) (64 * n) (λ s h.
+      let within : s / 64 < n = omega arith in ap (λ (x : ℕ). has x (s % 64)) (get_or-take n table (s / 64) 0 within)) ∙ slims_marked table so
+      )
 
   -- ---- the members among the sets of a word
   -- where all are covered without one of their upper actions, none need be known

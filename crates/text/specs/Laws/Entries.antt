@@ -2,22 +2,13 @@
 -- the line of a refusal is.
 use Rattle.std.specs.Prelude.{ℕ, zero, suc, ◌+◌, ◌≤◌, ◌<◌, ◌≡◌, refl, List, [], ◌∷◌, ◌++◌, map, length, take, get_or}
 use Rattle.std.proofs.Common.{sym, ◌∙◌, ap, append_assoc, append-nil, add-one, arith, take-suc, length-take-le}
-use Rattle.std.proofs.lemmas.List.{map-append}
-use Rattle.format.specs.Text.{ascii, decimal}
-use Rattle.format.specs.Written.{joined, commas, each}
+use Rattle.std.proofs.lemmas.List.{map-append, length-map}
+use Rattle.format.specs.Text.{ascii}
+use Rattle.format.specs.Written.{joined, each}
 use Rattle.format.specs.Laws.Lengths.{ten_digits, line_length}
-use Rattle.text.specs.Put.{Puts, comma, refused_text}
-use Rattle.text.specs.Laws.Putting.{both, same_text}
-
--- a comma stands before each entry but the first
-pub comma_first : (i : ℕ) → i ≡ 0 → comma i ≡ []
-unfolding comma
-comma_first i e = rw e
-
-pub comma_other : (i : ℕ) → (i ≡ 0 → ⊥) → comma i ≡ ascii ","
-unfolding comma
-comma_other zero h = absurd (h refl)
-comma_other (suc i) h = refl
+use Rattle.text.specs.declared.Pen.{Pen}
+use Rattle.text.specs.Put.{with_text, refused_text}
+use Rattle.text.specs.Laws.Pens.{with_none, with_both}
 
 -- one more text behind texts
 joined_more : (q : List ℕ) (ps : List (List ℕ)) (p : List ℕ) → joined ((q ∷ ps) ++ (p ∷ [])) ≡ joined (q ∷ ps) ++ (ascii "," ++ p)
@@ -25,21 +16,33 @@ unfolding joined
 joined_more q [] p = refl
 joined_more q (r ∷ ps) p = rw (joined_more r ps p) (sym (append_assoc q _ _))
 
--- one more number behind the numbers of a list
-numbers_more : (l : List ℕ) (n : ℕ) → commas (l ++ (n ∷ [])) ≡ commas l ++ (comma (length l) ++ decimal n)
-unfolding commas comma joined
-numbers_more [] n = refl
-numbers_more (m ∷ l) n =
-    ap (λ ds. joined (decimal m ∷ ds)) (map-append decimal l (n ∷ [])) ∙ joined_more (decimal m) (map decimal l) (decimal n)
+-- the texts of a list with commas between, and the next
+joined_one : (ps : List (List ℕ)) (p : List ℕ) → ¬ (length ps ≡ 0) → joined (ps ++ (p ∷ [])) ≡ joined ps ++ (ascii "," ++ p)
+joined_one [] p h = absurd (h refl)
+joined_one (q ∷ ps) p h = joined_more q ps p
 
--- one more number of a list
-one_more : (xs : List ℕ) (i : ℕ) → i < length xs → commas (take (suc i) xs) ≡ commas (take i xs) ++ (comma i ++ decimal (get_or xs i 0))
-one_more xs i h = rw (take-suc xs i 0 h, numbers_more, length-take-le i xs (omega arith))
+pub no_entry : (pen : Pen) → pen ≡ with_text (joined []) pen
+unfolding joined
+no_entry pen = sym (with_none pen)
 
--- the numbers of a list, and the next behind them
-pub one_entry : (xs : List ℕ) {before mid after : List ℕ} {at end last i : ℕ} → i < length xs → Puts before at (commas (take i xs)) mid end
-    → Puts mid end (comma i ++ decimal (get_or xs i 0)) after last → Puts before at (commas (take (i + 1) xs)) after last
-one_entry xs {i = i} h a b = same_text (both a b) (sym (rw add-one (one_more xs i h)))
+pub first_entry : {A : Type 0} (f : A → List ℕ) (xs : List A) (d : A) (i : ℕ) (pen : Pen) → i < length xs → i ≡ 0
+    → with_text (joined (map f (take (i + 1) xs))) pen ≡ with_text (f (get_or xs i d)) (with_text (joined (map f (take i xs))) pen)
+unfolding joined
+first_entry f [] d i pen h e = absurd (omega arith)
+first_entry f (x ∷ xs) d (suc i) pen h e = absurd (omega arith)
+first_entry f (x ∷ xs) d zero pen h e = sym (ap (with_text (f x)) (with_none pen))
+
+pub next_entry : {A : Type 0} (f : A → List ℕ) (xs : List A) (d : A) (i : ℕ) (pen : Pen) → i < length xs → ¬ (i ≡ 0)
+    → with_text (joined (map f (take (i + 1) xs))) pen
+    ≡ with_text (f (get_or xs i d)) (with_text (ascii ",") (with_text (joined (map f (take i xs))) pen))
+next_entry f xs d i pen h some =
+    let before = map f (take i xs) in
+    let more : map f (take (i + 1) xs) ≡ before ++ (f (get_or xs i d) ∷ []) =
+    rw (add-one, take-suc xs i d h) (map-append f (take i xs) (get_or xs i d ∷ [])) in
+    let long : length before ≡ i = length-map (take i xs) f ∙ length-take-le i xs (omega arith) in
+    ap (λ l. with_text (joined l) pen) more
+    ∙ ap (λ t. with_text t pen) (joined_one before (f (get_or xs i d)) (λ e. some (sym long ∙ e)))
+    ∙ with_both (joined before) (ascii "," ++ f (get_or xs i d)) pen ∙ with_both (ascii ",") (f (get_or xs i d)) _
 
 -- the texts of a list, and the next behind them
 each_more : {A : Type 0} (f : A → List ℕ) (xs : List A) (x : A) → each f (xs ++ (x ∷ [])) ≡ each f xs ++ f x
@@ -47,10 +50,10 @@ unfolding each
 each_more f [] x = append-nil (f x)
 each_more f (y ∷ xs) x = rw (each_more f xs x) (sym (append_assoc (f y) (each f xs) (f x)))
 
-pub one_text : {A : Type 0} (f : A → List ℕ) (d : A) (xs : List A) {before mid after : List ℕ} {at end last i : ℕ} → i < length xs
-    → Puts before at (each f (take i xs)) mid end → Puts mid end (f (get_or xs i d)) after last
-    → Puts before at (each f (take (i + 1) xs)) after last
-one_text f d xs {i = i} h a b = same_text (both a b) (sym (rw (add-one, take-suc xs i d h) (each_more f (take i xs) (get_or xs i d))))
+pub one_text : {A : Type 0} (f : A → List ℕ) (xs : List A) (d : A) (i : ℕ) (pen : Pen) → i < length xs
+    → with_text (each f (take (i + 1) xs)) pen ≡ with_text (f (get_or xs i d)) (with_text (each f (take i xs)) pen)
+one_text f xs d i pen h =
+    rw (add-one, take-suc xs i d h) (ap (λ t. with_text t pen) (each_more f (take i xs) (get_or xs i d)) ∙ with_both _ _ pen)
 
 pub refused_length : (n : ℕ) → length (refused_text n) ≤ 19
 unfolding refused_text

@@ -1,27 +1,32 @@
--- `threshold::policy` meets its contract.
-use mathlib.Core.List.{List}
-use mathlib.Core.Path.{ap₂, ◌∙◌}
-use lib.ListN.{replicate}
-use Rattle.base.specs.Lists.{filled}
-use Rattle.policy.specs.declared.Rule.{Rule}
-use Rattle.policy.specs.declared.Action.{Action}
-use Rattle.policy.specs.declared.Policy.{Policy}
-use Rattle.format.specs.Entries.{record_of}
-use Rattle.threshold.specs.AtLeast.{at_least}
-use Rattle.threshold.specs.Laws.Taken.{rows_length}
+-- `policy` meets its contract: the policy holds the rules of the decisions so far.
+use Rattle.std.proofs.Common.{◌≡◌, ◌-◌, ℕ, subst, arith}
+use Rattle.threshold.specs.AtLeast.{rows, at_least}
+use Rattle.threshold.proofs.Counts.{there}
+use Rattle.threshold.proofs.Filling.{holding, none_yet, room, row_starts, row_ends, turned}
 use Rattle.threshold.proofs.policy.Goals as goal
 
--- the policy with such actions and these rules
-with_rules : Action → List Rule → Policy
-with_rules a rule = record {
-  decisions = 100;
-  actions = 16;
-  rules = 192;
-  level = replicate 128 0;
-  action = replicate 16 a;
-  rule = rule;
-}
+pub loop-i-init : goal.loop-i-init
+loop-i-init c = none_yet c.plain.ensures c.zero_rule.ensures
+
+pub loop-j-init : goal.loop-j-init
+loop-j-init c = (row_starts _ c.loop-i.invariant, omega arith)
+
+pub add_rules-requires : goal.add_rules-requires
+add_rules-requires c =
+    room _ _ (there (omega arith) c.loop-j.invariant.1 (omega arith) c.wide-j-end.ensures) c.loop-j.invariant.0
+
+pub loop-j-preserved : goal.loop-j-preserved
+loop-j-preserved c = (
+  turned _ _ (there (omega arith) c.loop-j.invariant.1 (omega arith) c.wide-j-end.ensures) c.loop-j.invariant.0
+      c.add_rules.ensures,
+  omega arith,
+)
+
+pub loop-i-preserved : goal.loop-i-preserved
+loop-i-preserved c = row_ends _ _ (omega arith) (omega (arith, c.wide-j-end.ensures)) c.loop-j.invariant.0
 
 pub returns : goal.returns
-unfolding at_least record_of filled with_rules
-returns c = ap₂ with_rules c.plain-action.ensures c.rules-rule.ensures ∙ rw rows_length
+unfolding at_least holding
+returns c =
+    let all : c.loop-i.i - 1 ≡ 16 = omega arith in
+    subst (λ (n : ℕ). c.loop-i.policy ≡ holding (rows n)) all c.loop-i.invariant

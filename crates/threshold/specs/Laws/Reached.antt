@@ -1,6 +1,6 @@
 -- The bound is reached: the slim sets of the policy's query are the sets of exactly 8 actions, and there are 12,870.
 use Prim.Native.Nat.{ℕ, zero, suc, ◌^◌, ◌≤◌, ◌<◌}
-use Rattle.std.specs.Prelude.{Bool, true, false, cond, List, ◌↔◌, ◌≡◌, T, eqb, length, get_or, replicate}
+use Rattle.std.specs.Prelude.{Bool, true, false, cond, List, ◌↔◌, ◌≡◌, T, eqb, length, get_or, replicate, Err}
 use Rattle.std.proofs.Math.Path.{refl}
 use Rattle.std.proofs.Common.{sym, ap, subst, ◌∙◌, arith, lit<, eqb→eq}
 use Rattle.std.specs.Int.Bits.{or_zero_r}
@@ -18,7 +18,8 @@ use Rattle.policy.specs.Questions.{first_no}
 use Rattle.policy.specs.Record.{no_action}
 use Rattle.model.specs.World.{alsoes, followed, world_in, world_of}
 use Rattle.model.specs.Derivation.{Derivable}
-use Rattle.engine.specs.declared.Listing.TheVariants.{Refused}
+use Rattle.policy.specs.declared.refusal.Refusal.TheVariants.{ListTooShort}
+use Rattle.policy.specs.Refusal.{refusal_of, refuse}
 use Rattle.engine.specs.Sets.{most_slim, Enough, Slim}
 use Rattle.engine.specs.Calls.{slim, slim_sets, list_questions, list_of}
 use Rattle.engine.specs.Laws.Decide.{slim_iff}
@@ -110,8 +111,8 @@ pub most_slim_lem : length (slim_sets at_least eight) ≡ most_slim
 most_slim_lem = ap length slim_sets_lem ∙ among_counted (sized 8) (2 ^ 16) ∙ layer 16 8 ∙ halves.3
 
 -- so List is refused by 8 where it is lent fewer places
-pub short_list : (places : ℕ) → places < most_slim → list_of at_least eight places ≡ Refused 8
-unfolding list_of
+pub short_list : (places : ℕ) → places < most_slim → list_of at_least eight places ≡ Err ListTooShort
+unfolding list_of refusal_of
 short_list places h =
     let eighth = list_no at_least eight places accepted (omega (arith, most_slim_lem)) in
-    refused (first_no (list_questions at_least eight places)) _ _ (λ z. omega arith) ∙ ap Refused eighth
+    refused (first_no (list_questions at_least eight places)) _ _ (λ z. omega arith) ∙ ap refuse eighth

@@ -1,6 +1,6 @@
 -- The policy has document 02's counts, and is accepted with its query: by computation.
 use Rattle.std.specs.Prelude.{◌≡◌, refl, length}
-use Rattle.base.specs.Every.{every, every_below}
+use Rattle.base.specs.Every.{every_below}
 use Rattle.base.specs.Lists.{filled}
 use Rattle.policy.specs.Questions.{first_no, questions, query_in_range, in_range, others_in_range, counts_in_range, level_in_range, action_in_range}
 use Rattle.policy.specs.Questions.{rule_in_range, list_in_range, lists_rise, rule_rises, rises, levels_fit, rule_levels_fit, levels_below}
@@ -29,6 +29,6 @@ rules_are = rows_length
 
 pub accepted : Accepted at_least eight
 unfolding at_least eight decisions_to number without fewer having first_for rules_for row rows plain record_of zero_rule decisions_of filled
-    every every_below first_no questions query_in_range in_range others_in_range counts_in_range level_in_range action_in_range
+    every_below first_no questions query_in_range in_range others_in_range counts_in_range level_in_range action_in_range
     rule_in_range list_in_range lists_rise rule_rises rises levels_fit rule_levels_fit levels_below weights_fit outweighs heavier Accepted
 accepted = refl

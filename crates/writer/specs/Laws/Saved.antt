@@ -1,13 +1,13 @@
 -- The file of an accepted record is read back, and each accepted file is what the writer makes of its record.
-use Rattle.std.specs.Prelude.{ℕ, zero, suc, ◌≤◌, ◌<◌, true, List, ◌++◌, ◌≡◌, refl, length, take, get_or, drop}
+use Rattle.std.specs.Prelude.{ℕ, zero, suc, ◌≤◌, ◌<◌, true, List, ◌++◌, ◌≡◌, refl, length, take, get_or, drop, Ok}
 use Rattle.std.proofs.Math.Path.{sym, ap}
 use Rattle.std.proofs.Common.{◌∙◌, arith, take_at, drop_at}
 use Rattle.std.proofs.Math.Seq.{length-take-le}
 use Rattle.base.specs.Laws.Tests.{is_true}
 use Rattle.base.specs.Laws.Lists.{filled_front}
 use Rattle.policy.specs.declared.Policy.{Policy}
-use Rattle.policy.specs.Questions.{first_no, query_in_range, queries_in_range, record_questions, check_record_of}
-use Rattle.policy.specs.Laws.{Answers, answers}
+use Rattle.policy.specs.Questions.{first_no, query_in_range, queries_in_range, questions, record_questions, check_record_of}
+use Rattle.policy.specs.Laws.{Answers, answers, first_no_most}
 use Rattle.policy.specs.declared.Queries.{Queries}
 use Rattle.engine.specs.Calls.{refused_or}
 use Rattle.engine.specs.Meaning.{AllYes}
@@ -21,7 +21,8 @@ use Rattle.reader.specs.Laws.Cleared.{cleared_reading}
 use Rattle.reader.specs.Claim.{AcceptedFile, States}
 use Rattle.reader.specs.Laws.Back.{queries_few, queries_fit, file_short, reads_back}
 use Rattle.reader.specs.Laws.States.{states}
-use Rattle.writer.specs.declared.Written.TheVariants.{Refused, Length}
+use Rattle.policy.specs.Refusal.{number_of, refusal_of, refuse}
+use Rattle.policy.specs.Laws.Refusals.{number_of_refusal}
 use Rattle.writer.specs.Writing.{file_text, write_questions, write_of, write_after, ReadBack, Writes}
 use Rattle.writer.specs.Claim.{AcceptedRecord, Rewritten}
 use Rattle.writer.specs.Laws.Room.{room, answered_before}
@@ -62,13 +63,18 @@ module _ (p : Policy) (qs : Queries) (ok : AcceptedRecord p qs) where
 
 -- what is written where no question is answered no
 module _ (p : Policy) (qs : Queries) (before : List ℕ) (yes : AllYes (write_questions p qs (length before))) where
-  pub length_written : write_of p qs (length before) ≡ Length (length (file_text p qs))
+  pub length_written : write_of p qs (length before) ≡ Ok (length (file_text p qs))
   unfolding write_of
   length_written = answered _ _ _ yes
 
   pub file_written : write_after p qs before ≡ file_text p qs ++ drop (length (file_text p qs)) before
   unfolding write_after
   file_written = answered _ _ _ yes
+
+-- no question has a number past 10
+write_few : (p : Policy) (qs : Queries) (places : ℕ) → first_no (write_questions p qs places) ≤ 10
+unfolding write_questions questions
+write_few p qs places = first_no_most 10 (write_questions p qs places) tt
 
 -- what is returned means what each case says, for a record in arrays of its structs' lengths
 pub write_means : (p : Policy) (qs : Queries) (before : List ℕ) → (AllYes (record_questions p qs) → AcceptedRecord p qs)
@@ -78,7 +84,7 @@ write_means p qs before held = go (first_no (write_questions p qs (length before
   where
     go : (n : ℕ) → first_no (write_questions p qs (length before)) ≡ n
         → Writes p qs before (refused_or n (λ k. before) (file_text p qs ++ drop (length (file_text p qs)) before))
-        (refused_or n Refused (Length (length (file_text p qs))))
+        (refused_or n refuse (Ok (length (file_text p qs))))
     go zero e =
         let file = file_text p qs in
         let front = take_at file (drop (length file) before) (length file) refl in (
@@ -88,7 +94,10 @@ write_means p qs before held = go (first_no (write_questions p qs (length before
           drop_at file (drop (length file) before) (length file) refl,
           rw front (read_back p qs (held (answered_before p qs (length before) e))),
         )
-    go (suc n) e = ((e, λ z. omega arith), refl)
+    go (suc n) e =
+        let few = write_few p qs (length before) in
+        let same : number_of (refusal_of (suc n)) ≡ suc n = number_of_refusal (suc n) (λ z. omega arith) (omega (arith, e, few)) in
+        ((e ∙ sym same, λ z. omega (arith, same)), refl)
 
 module _ (s : List ℕ) (accepted : AcceptedFile s) where
   stated : States s (read_of s)
@@ -106,6 +115,6 @@ module _ (s : List ℕ) (accepted : AcceptedFile s) where
       let text : file_text p qs ≡ s = sym stated.draft.text in
       let yes = room p qs (length before) record_accepted (rw text h) in
       record {
-        answer = length_written p qs before yes ∙ ap (λ t. Length (length t)) text;
+        answer = length_written p qs before yes ∙ ap (λ t. Ok (length t)) text;
         after = file_written p qs before yes ∙ ap (λ t. t ++ drop (length t) before) text;
       }

@@ -1,5 +1,5 @@
 -- The three steps are those of the definition; where the first leaves no set, so do the others, and the words stay as they are.
-use mathlib.Core.Path.{◌≡◌, sym, ap}
+use Rattle.std.proofs.Common.{◌≡◌, sym, ap}
 use Rattle.settle.specs.Words.{added_of, grown}
 use Rattle.settle.specs.Laws.Bits.{added_none}
 use Rattle.settle.specs.Laws.Grown.{grown_none}
@@ -15,6 +15,6 @@ pub returns : goal.returns
 unfolding added_of
 returns c =
     let a = c.args in
-    let added : c.none_held-more.result ≡ added_of a.held.now a.enabled a.rule =
+    let added : c.none_held-more.result ≡ added_of a.held.now a.enabled a.rule.now =
     rw (← c.all_held-ready.ensures) c.none_held-more.ensures in
-    record { value = added; held_after = ap (grown a.held.now a.rule.head) added }
+    record { value = added; held_after = ap (grown a.held.now a.rule.now.head) added }

@@ -1,19 +1,14 @@
--- The loop's invariant: the word is what the first i decisions leave.
-use mathlib.Core.Path.{refl}
-use native.Mathlib.Omega.{arith}
-use borrow.Author.Rules.{rules}
-use lib.Bits.{bit_and}
-use Rattle.policy.specs.Laws.{list_entry}
-use Rattle.settle.specs.Words.{folded}
-use Rattle.settle.proofs.Folding.{so_next}
+-- The word is what the decisions so far leave.
+use Rattle.std.proofs.Common.{bit_and}
+use Rattle.policy.proofs.Arrays.{entry_fits}
+use Rattle.settle.proofs.Folding.{so_none, so_next}
 use Rattle.settle.proofs.adding.all_held.Goals as goal
 
-pub loop-i-init : goal.loop-i-init
-unfolding folded
-loop-i-init c = record { long = search rules; few = c.requires.count; within = omega arith; same = refl }
+pub loop-d-init : goal.loop-d-init
+loop-d-init c = so_none bit_and
 
 pub bounds-held-d : goal.bounds-held-d
-bounds-held-d c = list_entry c.requires _ c.loop-i-test.true (omega (arith, c.loop-i.invariant.long, c.loop-i.invariant.few))
+bounds-held-d c = entry_fits c.requires _ c.listed-d-items.ensures _ 0 c.loop-d-test.true
 
-pub loop-i-preserved : goal.loop-i-preserved
-loop-i-preserved c = so_next bit_and c.loop-i.invariant c.loop-i-test.true
+pub loop-d-preserved : goal.loop-d-preserved
+loop-d-preserved c = so_next bit_and c.loop-d.invariant c.loop-d-test.true

@@ -1,11 +1,7 @@
--- The loop's invariant: the word is what the first i decisions leave.
-use Prim.Native.Nat.{◌-◌}
-use lib.Bits.{bit_and}
+-- The word is what the decisions so far leave.
+use Rattle.std.proofs.Common.{bit_and}
 use Rattle.settle.proofs.Folding.{So}
 use Rattle.settle.proofs.adding.all_held.Given as goal
 
-abbrev pub invariant-loop-i : goal.invariant-loop-i
-invariant-loop-i l = So bit_and l.held l.sets l.at l.count l.word l.i
-
-abbrev pub decreases-loop-i : goal.decreases-loop-i
-decreases-loop-i l = l.count - l.i
+abbrev pub invariant-loop-d : goal.invariant-loop-d
+invariant-loop-d l = So bit_and l.held l.sets l.d-items l.word l.d-index

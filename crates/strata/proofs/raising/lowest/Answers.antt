@@ -1,12 +1,16 @@
 -- `lowest` computes the levels of the definition: the invariants of its loops are in `Rounds`.
 use Prim.Native.Nat.{ℕ, ◌<◌}
 use mathlib.Core.Bool.{true}
-use mathlib.Core.Path.{◌≡◌}
+use mathlib.Core.Path.{◌≡◌, sym, ◌∙◌, ap, subst}
+use mathlib.Core.List.{List}
 use native.Mathlib.Omega.{arith}
-use lib.ListN.{replicate}
+use lib.ListN.{replicate, get_or, length}
 use Rattle.base.specs.Laws.Tests.{passes}
 use Rattle.policy.specs.declared.Policy.{Policy}
-use Rattle.policy.specs.Record.{rule_of, with_levels}
+use Rattle.policy.specs.declared.Rule.{Rule}
+use Rattle.policy.specs.Record.{no_rule, rule_of, rules_of, with_levels}
+use Rattle.policy.proofs.Arrays.{front_entry}
+use Rattle.strata.specs.Levels.{asked}
 use Rattle.policy.specs.Questions.{others_in_range}
 use Rattle.policy.specs.Laws.{RuleFits, rule_wider, InRange}
 use Rattle.strata.specs.Laws.Levels.{others_range}
@@ -18,8 +22,8 @@ use Rattle.strata.proofs.raising.lowest.Goals as goal
 pub rounds-init : goal.rounds-init
 rounds-init c = round_first _
 
-pub loop-k-init : goal.loop-k-init
-loop-k-init c = turn_first _ c.rounds.invariant
+pub loop-rule-init : goal.loop-rule-init
+loop-rule-init c = turn_first _ c.rounds.invariant
 
 -- question 3 is answered yes, the levels left out
 range : (p : Policy) → others_in_range p ≡ true → InRange (with_levels p (replicate 128 0))
@@ -31,38 +35,45 @@ ready p three k less =
     let known = range p three in
     rule_wider known.decisions known.actions (known.rule k less)
 
-pub bounds-policy-k : goal.bounds-policy-k
-bounds-policy-k c = omega (arith, (range _ c.requires.policy_value).rules)
-
-pub overflow_cast-head : goal.overflow_cast-head
-overflow_cast-head c = omega (arith, (ready _ c.requires.policy_value _ c.loop-k-test.true).head)
+-- and so is one that the loop reads
+read : (p : Policy) {items : List Rule} → others_in_range p ≡ true → items ≡ rules_of p → (k : ℕ) → k < p.rules → k < length items
+    → RuleFits 128 16 (get_or items k no_rule)
+read p {items} three e k less there =
+    subst (RuleFits 128 16) (sym (front_entry items p.rules p.rule no_rule k e there)) (ready p three k less)
 
 pub asked-need-requires : goal.asked-need-requires
-asked-need-requires c = record { each_small = c.loop-k.invariant.now.small; rule_fits = ready _ c.requires.policy_value _ c.loop-k-test.true }
+asked-need-requires c = record {
+  each_small = c.loop-rule.invariant.now.small;
+  rule_fits = read _ c.requires.policy_value c.rules-rule-items.ensures.value _ (omega arith) c.loop-rule-test.true;
+}
 
 pub bounds-level-head : goal.bounds-level-head
-bounds-level-head c = (ready _ c.requires.policy_value _ c.loop-k-test.true).head
+bounds-level-head c = (read _ c.requires.policy_value c.rules-rule-items.ensures.value _ (omega arith) c.loop-rule-test.true).head
 
 pub bounds-level-head-then-level-head : goal.bounds-level-head-then-level-head
-bounds-level-head-then-level-head c = (ready _ c.requires.policy_value _ c.loop-k-test.true).head
+bounds-level-head-then-level-head c =
+    (read _ c.requires.policy_value c.rules-rule-items.ensures.value _ (omega arith) c.loop-rule-test.true).head
 
-pub loop-k-preserved : goal.loop-k-preserved
-loop-k-preserved c =
-    let same = c.asked-need.ensures in
+pub loop-rule-preserved : goal.loop-rule-preserved
+loop-rule-preserved c =
+    let p = c.args.policy.now in
     let pre = c.requires in
+    let here = front_entry _ p.rules p.rule no_rule _ c.rules-rule-items.ensures.value c.loop-rule-test.true in
+    let same = c.asked-need.ensures ∙ ap (asked c.loop-rule.level) here in
+    let head = ap (λ (r : Rule). r.head) here in
     elim c.if-level-head.branch [
-      | then-level-head w ↦ rw (w.level-is, w.raised-is, same) (turn_raised _ pre.policy_value pre.policy_value_2
-          c.loop-k.invariant c.loop-k-test.true (rw same at w.if-level-head.true) (omega arith))
-      | else-level-head w ↦ rw (w.level-is, w.raised-is) (turn_kept _ pre.policy_value pre.policy_value_2
-          c.loop-k.invariant c.loop-k-test.true (rw same at w.if-level-head.false))
+      | then-level-head w ↦ rw (w.level-is, w.raised-is) (turn_raised p pre.policy_value pre.policy_value_2
+          c.loop-rule.invariant (omega arith) head same w.if-level-head.true (omega arith))
+      | else-level-head w ↦ rw (w.level-is, w.raised-is) (turn_kept p pre.policy_value pre.policy_value_2
+          c.loop-rule.invariant (omega arith) head same w.if-level-head.false)
     ]
 
 pub rounds-smaller : goal.rounds-smaller
-rounds-smaller c = fewer_rounds _ c.loop-k.invariant c.if-not-raised.false
+rounds-smaller c = fewer_rounds _ c.loop-rule.invariant c.if-not-raised.false
 
 pub rounds-preserved : goal.rounds-preserved
-rounds-preserved c = c.loop-k.invariant.now
+rounds-preserved c = c.loop-rule.invariant.now
 
 pub returns : goal.returns
 returns c =
-    rounds_end _ c.requires.policy_value c.requires.policy_value_2 c.loop-k-test.false c.loop-k.invariant c.if-not-raised.true
+    rounds_end _ c.requires.policy_value c.requires.policy_value_2 (omega (arith, (range _ c.requires.policy_value).rules)) c.loop-rule.invariant c.if-not-raised.true

@@ -4,11 +4,8 @@ use Rattle.base.specs.Laws.Totals.{total}
 use Rattle.strata.proofs.Rounds.{AtRound, AtTurn}
 use Rattle.strata.proofs.raising.lowest.Given as goal
 
-abbrev pub invariant-loop-k : goal.invariant-loop-k
-invariant-loop-k l = AtTurn l.policy l.initial.level l.k l.level l.raised
-
-abbrev pub decreases-loop-k : goal.decreases-loop-k
-decreases-loop-k l = l.rules - l.k
+abbrev pub invariant-loop-rule : goal.invariant-loop-rule
+invariant-loop-rule l = AtTurn l.policy l.initial.level l.rule-index l.level l.raised
 
 abbrev pub invariant-rounds : goal.invariant-rounds
 invariant-rounds l = AtRound l.policy l.level

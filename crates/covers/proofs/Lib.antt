@@ -1,2 +1,0 @@
--- What a turn of a loop over the six lowest actions does.
-pub mod Steps

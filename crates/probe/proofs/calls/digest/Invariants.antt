@@ -1,9 +1,0 @@
--- `probe::calls::digest` is safe and ends.
-use Prim.Native.Nat.{◌-◌}
-use Rattle.probe.proofs.calls.digest.Given as goal
-
-abbrev pub invariant-loop-w : goal.invariant-loop-w
-invariant-loop-w l = Unit
-
-abbrev pub decreases-loop-w : goal.decreases-loop-w
-decreases-loop-w l = 1024 - l.w

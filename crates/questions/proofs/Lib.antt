@@ -1,2 +1,0 @@
--- Laws that several of the proofs cite.
-pub mod Asked

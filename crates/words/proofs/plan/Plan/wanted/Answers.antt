@@ -1,0 +1,24 @@
+-- The level of the decision wanted is worked.
+use Rattle.std.proofs.Common.{◌≤◌, ◌<◌, arith}
+use Rattle.policy.specs.declared.Policy.{Policy}
+use Rattle.policy.specs.declared.Query.{Query}
+use Rattle.policy.specs.Questions.{Accepted}
+use Rattle.policy.specs.Record.{level_of}
+use Rattle.policy.specs.Laws.{accepted_range, accepted_want}
+use Rattle.words.proofs.plan.Plan.wanted.Goals as goal
+
+-- want is a decision, of a level up to 15
+small : (p : Policy) (q : Query) → Accepted p q → q.want < 128
+small p q ok = omega (arith, accepted_want p q ok, (accepted_range p q ok).decisions)
+
+level : (p : Policy) (q : Query) → Accepted p q → level_of p q.want ≤ 15
+level p q ok = (accepted_range p q ok).level _ (accepted_want p q ok)
+
+pub bounds-self-want : goal.bounds-self-want
+bounds-self-want c = small _ _ c.args.self.now.accepted
+
+pub worked-word-requires : goal.worked-word-requires
+worked-word-requires c = omega (arith, level _ _ c.args.self.now.accepted)
+
+pub bounds-word-want : goal.bounds-word-want
+bounds-word-want c = small _ _ c.args.self.now.accepted
