@@ -14,7 +14,7 @@ fn same_but_weight(one: &Action, other: &Action) -> bool
     one.kind == other.kind && one.also == other.also
 }
 
-// Whether each pair of actions is so.
+// Whether the actions of each pair are the same but for their weights.
 fn pairs_but_weight(first: &[Action], second: &[Action]) -> bool
     ensures { result ≡ list_all (λ p. same_but_weight p.0 p.1) (zip first.now second.now) }
 {
@@ -24,7 +24,7 @@ fn pairs_but_weight(first: &[Action], second: &[Action]) -> bool
         .all(|(one, other)| same_but_weight(one, other))
 }
 
-// Whether there are as many actions, and each pair is so.
+// Whether there are as many actions, and those of each pair are the same but for their weights.
 #[tactic(auto, using(crate::proofs::Tested::by_pairs, crate::proofs::Tested::unlike))]
 fn each_but_weight(first: &[Action], second: &[Action]) -> bool
     ensures { result ≡ pointwise same_but_weight first.now second.now }
@@ -43,7 +43,7 @@ fn changes(first: &[Action], second: &[Action]) -> usize
         .count()
 }
 
-// Whether the actions below the count are the same but for at most one weight.
+// Whether the lists are the same but for at most one weight.
 #[tactic(auto, unfolding(crate::specs::Comparable::same_actions))]
 pub(crate) fn same(first: &[Action], second: &[Action]) -> bool
     ensures { result ≡ same_actions first.now second.now }

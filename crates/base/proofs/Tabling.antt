@@ -1,4 +1,4 @@
--- Loops that fill an array.
+-- A loop that fills an array, as it starts.
 use Rattle.std.proofs.Common.{ℕ, List, ◌≡◌, zero-le, length, arith}
 use Rattle.base.specs.Laws.Tables.{Tabled}
 

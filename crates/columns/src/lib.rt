@@ -13,11 +13,8 @@ mod word;
 pub use reach::{Reach, needed};
 pub use word::WordNumber;
 
-// The words that have every set of 16 actions.
+// The number of words that have every set of 16 actions.
 pub const WORDS: usize = 1024;
-
-// Every set.
-const ALL: u64 = 0xFFFFFFFFFFFFFFFF;
 
 // For each of the lowest six actions, the places whose number has it.
 pub const LOW: [u64; 6] = [
@@ -29,8 +26,8 @@ pub const LOW: [u64; 6] = [
     0xFFFFFFFF00000000,
 ];
 
-// Whether the i-th set is in the word. It is `mask::has` for words: one function for both would promise what `Into` gives of
-// its argument, and each caller would read less plainly.
+// Whether the i-th set is in the word. It is `mask::has` for words: one function for both would take `impl Into<u64>`, and its contract
+// would speak of what `into` gives.
 pub fn has(word: u64, i: u16) -> bool
     requires { i < 64 }
     ensures { result ≡ has word i }
@@ -45,7 +42,7 @@ fn column(a: usize, w: u16) -> u64
     if a < 6 {
         return LOW[a];
     }
-    if mask::has(w, a - 6) { ALL } else { 0 }
+    if mask::has(w, a - 6) { u64::MAX } else { 0 }
 }
 
 // Whether no offered set has action a.
@@ -55,27 +52,28 @@ fn shut(a: usize, actions: u8, done: u16) -> bool
     a >= actions as usize || mask::has(done, a)
 }
 
-// The sets that are offered: they share nothing with done, and are masks of the actions.
+// The sets that are offered: they share nothing with done, and are masks of the actions. The loops' numbers, here and below, are actions.
+// A filter and a fold were tried: with them, and in `covers`, `clear` took up to a tenth longer.
 pub fn offered(actions: u8, done: u16, w: WordNumber) -> u64
     ensures { result ≡ offered_of actions done w.w }
 {
-    let mut sets = ALL;
+    let mut sets = u64::MAX;
     for a in 0..MOST_ACTIONS {
         if shut(a, actions, done) {
-            sets = sets ^ (sets & column(a, w.w));
+            sets ^= sets & column(a, w.w);
         }
     }
     sets
 }
 
-// The sets that contain the set.
+// The sets that contain the set. The number w is any, here and in `Reach`: no promise needs a bound of it, as that of `offered` does.
 pub fn holding(set: u16, w: u16) -> u64
     ensures { result ≡ holding_of set w }
 {
-    let mut sets = ALL;
+    let mut sets = u64::MAX;
     for a in 0..MOST_ACTIONS {
         if mask::has(set, a) {
-            sets = sets & column(a, w);
+            sets &= column(a, w);
         }
     }
     sets

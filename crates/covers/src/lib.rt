@@ -17,7 +17,8 @@ fn added(marks: u64, a: usize) -> u64
     lacking << (1u32 << a)
 }
 
-// Those of the 64 sets that have a marked subset among them.
+// Those of the 64 sets that have a marked subset among them. The loops' numbers, here and below, are actions. Folds were tried: with
+// them, and in `columns`, `clear` took up to a tenth longer.
 #[tactic(auto, unfolding(crate::specs::Covers::closed_of))]
 pub fn closed(marks: u64) -> u64
     ensures { result ≡ closed_of marks 6 }
@@ -62,7 +63,7 @@ pub struct Both {
     pub slim: u64,
 }
 
-// From the members among the sets of a word, and those of its sets that are marked without one of the actions from 6 on.
+// Works both from the members among the sets of a word, and from those of its sets that are marked without one of the actions from 6 on.
 pub fn step(members: u64, low: u64) -> Both
     ensures covered_value { result.covered ≡ covered_of members low }
     ensures slim_value { result.slim ≡ slim_of members low }

@@ -1,9 +1,7 @@
 -- What List writes: the sets that the survey's words mark as slim.
 use Prim.Native.Nat.{ℕ, ◌*◌, ◌≤◌}
-use Rattle.std.proofs.Common.{◌≡◌, ap, arith, List, length, take, Option}
+use Rattle.std.proofs.Common.{◌≡◌, ◌∙◌, ap, arith, List, length, take, Option}
 use Rattle.std.proofs.lemmas.List.{length-take-le}
-use Rattle.std.proofs.Math.Option.{Option as Best}
-use lib.Pow.{pow_mono}
 use Rattle.mask.specs.Family.{among, minimal}
 use Rattle.policy.specs.declared.Policy.{Policy}
 use Rattle.policy.specs.declared.Query.{Query}
@@ -11,6 +9,7 @@ use Rattle.policy.specs.Questions.{Accepted}
 use Rattle.covers.specs.Covers.{word_count, Table, marked_in}
 use Rattle.covers.specs.Laws.Marks.{words_few}
 use Rattle.weight.specs.Cost.{cost_of}
+use Rattle.words.specs.declared.plan.Plan.{Plan}
 use Rattle.survey.specs.declared.Found.{Found}
 use Rattle.survey.specs.Survey.{family, SoFar, slims}
 use Rattle.survey.specs.Laws.Slims.{words_marked}
@@ -24,10 +23,14 @@ pub record Listing (p : Policy) (q : Query) (found : Option Found) (table : List
   pub marks : Table (minimal (family p q)) (word_count p.actions) table
 
 -- as the survey promises it of a plan for the query
-pub surveyed : {p : Policy} {q : Query} {p' : Policy} {q' : Query} {found : Option Found} {table : List ℕ} → Accepted p q → p' ≡ p → q' ≡ q
-    → SoFar (cost_of p') found (length (slim_sets p' q')) (best p' q') → Table (minimal (family p' q')) (word_count p'.actions) table
-    → Listing p q found table
-surveyed ok same same' sofar marks = record { ok = ok; sofar = rw (same, same') at sofar; marks = rw (same, same') at marks }
+pub surveyed : {p : Policy} {q : Query} {plan of : Plan} {found : Option Found} {table : List ℕ}
+    → record { same_policy : plan.policy ≡ p; same_query : plan.query ≡ q } → of ≡ plan
+    → SoFar (cost_of of.policy) found (length (slim_sets of.policy of.query)) (best of.policy of.query)
+    → Table (minimal (family of.policy of.query)) (word_count of.policy.actions) table → Listing p q found table
+surveyed {of = of} same e sofar marks =
+    let policy = ap (λ (x : Plan). x.policy) e ∙ same.same_policy in
+    let query = ap (λ (x : Plan). x.query) e ∙ same.same_query in
+    record { ok = rw (policy, query) at of.accepted; sofar = rw (policy, query) at sofar; marks = rw (policy, query) at marks }
 
 module _ {p : Policy} {q : Query} {found : Option Found} {table : List ℕ} (so : Listing p q found table) where
   -- the number found is that of the slim sets

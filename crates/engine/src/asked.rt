@@ -1,10 +1,11 @@
-// The questions that the engine's calls put to what they are given.
+// The questions that the engine's calls put to what they are given, one by one as document 01 has the calls take it.
 ghost use Rattle.std.specs.Prelude.{◌≡◌};
 ghost use Rattle.policy.specs.Questions.{first_no, query_questions};
 ghost use Rattle.policy.specs.Refusal.{outcome};
 ghost use Rattle.engine.specs.Calls.{offer_in_range, offer_questions};
 ghost use Rattle.engine.specs.Words.{word_in_range, word_questions};
 
+use columns::WORDS;
 use policy::{Policy, Query, Refusal};
 
 // Whether the query is in range and the offered set a mask.
@@ -21,7 +22,7 @@ fn offer_in_range(policy: &Policy, query: Query, offered: u16) -> bool
 fn word_in_range(policy: &Policy, query: Query, w: u16) -> bool
     ensures { result ≡ word_in_range policy.now query w }
 {
-    query.in_range(policy.decisions, policy.actions) && w <= 1023
+    query.in_range(policy.decisions, policy.actions) && (w as usize) < WORDS
 }
 
 // Questions 3 to 6 to the policy and the query.

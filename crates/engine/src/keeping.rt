@@ -6,9 +6,10 @@ ghost use Rattle.engine.specs.Calls.{keep_for};
 use words::Words;
 
 // The set's best keep-off mask. Where no rule has an unless entry more actions do no harm, and nothing is worked.
-pub(crate) fn beside(words: &mut Words, set: u16) -> u16
-    requires { Enough words.old.plan.policy words.old.plan.query set }
-    ensures { result ≡ keep_for words.old.plan.policy words.old.plan.query set }
+#[tactic(auto, unfolding(crate::specs::Calls::keep_for))]
+pub(crate) fn beside(words: &Words, set: u16) -> u16
+    requires { Enough words.now.plan.policy words.now.plan.query set }
+    ensures { result ≡ keep_for words.now.plan.policy words.now.plan.query set }
 {
     if !keep::some_unless(&words.plan.policy) {
         return 0;

@@ -5,9 +5,9 @@
 ghost use Rattle.std.specs.Prelude.{[], ◌≡◌};
 ghost use Rattle.policy.specs.Record.{no_action};
 ghost use Rattle.format.specs.Format.{decisions_of};
-ghost use Rattle.format.specs.Entries.{zero_rule};
+ghost use Rattle.format.specs.Entries.{zero_query, zero_rule};
 
-use policy::{Action, Decisions, Kind, MOST_LISTED, Rule};
+use policy::{Action, Decisions, Kind, MOST_LISTED, Query, Rule};
 
 // A file has at most so many bytes.
 pub const MOST_BYTES: usize = 32768;
@@ -48,4 +48,11 @@ pub fn zero_action() -> Action
         weight: 0,
         also: 0,
     }
+}
+
+// A query of zeros.
+pub fn zero_query() -> Query
+    ensures { result ≡ zero_query }
+{
+    Query { want: 0, done: 0 }
 }

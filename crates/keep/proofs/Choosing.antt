@@ -2,7 +2,7 @@
 use Prim.Native.Nat.{ℕ, ◌+◌, ◌≤◌, ◌<◌, zero-le}
 use Rattle.std.specs.Prelude.{Bool, true, false, Option as Best, None, Some}
 use Rattle.std.specs.Option.{unwrap_or}
-use mathlib.Core.Option.{Option, none, some}
+use mathlib.Core.Option.{Option, none}
 use mathlib.Core.Logic.{◌≢◌}
 use Rattle.std.proofs.Common.{◌≡◌, refl, ap, subst, arith}
 use Rattle.std.proofs.lemmas.Bool.{leb-true, leb-false, le-leb}
@@ -13,12 +13,7 @@ use lib.Count.{ones}
 use Rattle.mask.specs.Family.{lighter, lightest}
 use Rattle.mask.specs.Laws.Lightest.{lighter_none, lighter_new, lighter_old, lightest_skip, lightest_more}
 use Rattle.keep.specs.Keep.{found_or0}
-use Rattle.keep.specs.Search.{no_fewer}
-
--- the best mask so far stands for what is found
-pub data Stands : Best ℕ → Option ℕ → Type 0 where
-  nothing : Stands None none
-  named : (b : ℕ) → Stands (Some b) (some b)
+use Rattle.keep.specs.Search.{no_fewer, Stands, nothing, named}
 
 stands_new : {best : Best ℕ} {o : Option ℕ} → Stands best o → (n : ℕ) → no_fewer best n ≡ false → Stands (Some n) (lighter ones o n)
 stands_new nothing n h = rw (lighter_none ones n) (named n)
@@ -28,7 +23,7 @@ stands_old : {best : Best ℕ} {o : Option ℕ} → Stands best o → (n : ℕ) 
 stands_old nothing n h = cc
 stands_old (named b) n h = rw (lighter_old ones n b (leb-true _ _ h)) (named b)
 
-stands_is : {best : Best ℕ} {o : Option ℕ} → Stands best o → unwrap_or best 0 ≡ found_or0 o
+pub stands_is : {best : Best ℕ} {o : Option ℕ} → Stands best o → unwrap_or best 0 ≡ found_or0 o
 unfolding found_or0
 stands_is nothing = refl
 stands_is (named b) = refl
@@ -83,5 +78,5 @@ unfolding lightest
 choosing_first {takes} {sets} {n} {best} so h e = none_first n so.stands h (ap (lightest takes ones) e)
 
 pub choosing_all : {takes : ℕ → Bool} {sets n : ℕ} {best : Best ℕ} → Choosing takes sets n best → sets ≤ n
-    → unwrap_or best 0 ≡ found_or0 (lightest takes ones sets)
-choosing_all so past = stands_is (rw (le_antisymm so.within past) at so.stands)
+    → Stands best (lightest takes ones sets)
+choosing_all so past = rw (le_antisymm so.within past) at so.stands

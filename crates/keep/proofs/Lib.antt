@@ -1,3 +1,3 @@
--- What a turn of each loop does.
+-- The masks that the search may pass over, and what a turn of it does.
 pub mod Leaps
 pub mod Choosing

@@ -1,4 +1,5 @@
 -- How the code finds the keep-off mask of a set: in a table that marks the sets which have a spoilt subset.
+use Rattle.std.proofs.Math.Option.{Option as Found, none, some}
 use Rattle.std.specs.Prelude.{ℕ, ◌-◌, ◌^◌, Bool, false, ◌&&◌, not, List, Option, None, Some, eqb, leb}
 use Rattle.std.specs.Int.Count.{ones}
 use Rattle.std.specs.Int.Bits.{bit_or}
@@ -25,3 +26,8 @@ unmarked table m s done k = disjoint k (bit_or s done) && not (marked_in table (
 abbrev pub no_fewer : Option ℕ → ℕ → Bool
 no_fewer None k = false
 no_fewer (Some b) k = leb (ones b) (ones k)
+
+-- the best mask so far stands for what is found
+pub data Stands : Option ℕ → Found ℕ → Type 0 where
+  nothing : Stands None none
+  named : (b : ℕ) → Stands (Some b) (some b)

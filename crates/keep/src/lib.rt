@@ -26,9 +26,8 @@ pub fn some_unless(policy: &Policy) -> bool
 }
 
 // Those of the sets of w that contain the set, are offered and are not enough; such as are in `low` are left out.
-fn spoilt(words: &mut Words, set: u16, w: WordNumber, low: u64) -> u64
-    ensures same_plan { words.new.plan ≡ words.old.plan }
-    ensures members { let plan = words.old.plan in
+fn spoilt(words: &Words, set: u16, w: WordNumber, low: u64) -> u64
+    ensures { let plan = words.now.plan in
         Members (spoilt (clears plan.policy plan.query) plan.policy.actions set plan.query.done) w.w low result }
 {
     let larger = columns::offered(words.plan.policy.actions, words.plan.query.done, w)
@@ -37,14 +36,14 @@ fn spoilt(words: &mut Words, set: u16, w: WordNumber, low: u64) -> u64
     if fresh == 0 {
         return 0;
     }
-    fresh ^ (fresh & words.wanted(w))
+    fresh ^ (fresh & words.recalled(w))
 }
 
-// A table that marks the sets of which some subset is such a set.
+// A table that marks the sets of which some subset contains the set, is offered and is not enough. It goes by the word's number, since
+// `covers::low` reads other entries of the table that is written.
 #[tactic(auto, using(covers::specs::Laws::Marks::words_few))]
-fn marks(words: &mut Words, set: u16) -> [u64; WORDS]
-    ensures same_plan { words.new.plan ≡ words.old.plan }
-    ensures table { let plan = words.old.plan in
+fn marks(words: &Words, set: u16) -> [u64; WORDS]
+    ensures { let plan = words.now.plan in
         Table (covered (spoilt (clears plan.policy plan.query) plan.policy.actions set plan.query.done))
         (word_count plan.policy.actions) result }
 {
@@ -57,10 +56,10 @@ fn marks(words: &mut Words, set: u16) -> [u64; WORDS]
     table
 }
 
-// The best keep-off mask of the set.
-pub fn keep_off(words: &mut Words, set: u16) -> u16
-    ensures same_plan { words.new.plan ≡ words.old.plan }
-    ensures value { let plan = words.old.plan in
+// The best keep-off mask of the set; 0 where there is none. The words and the set are two parameters, here and above: the words are there
+// before the set is found.
+pub fn keep_off(words: &Words, set: u16) -> u16
+    ensures { let plan = words.now.plan in
         result ≡ keep_of (clears plan.policy plan.query) plan.policy.actions set plan.query.done }
 {
     let table = marks(words, set);
@@ -70,5 +69,5 @@ pub fn keep_off(words: &mut Words, set: u16) -> u16
         set,
         done: words.plan.query.done,
     };
-    search.fewest()
+    search.fewest().unwrap_or(0)
 }

@@ -4,8 +4,7 @@ ghost use Rattle.std.specs.Int.Count.{ones};
 ghost use Rattle.mask.specs.Family.{lightest};
 ghost use Rattle.policy.specs.Record.{most_actions};
 ghost use Rattle.covers.specs.Covers.{marked_in};
-ghost use Rattle.keep.specs.Keep.{found_or0};
-ghost use Rattle.keep.specs.Search.{no_fewer, rest_of, unmarked};
+ghost use Rattle.keep.specs.Search.{Stands, no_fewer, rest_of, unmarked};
 
 use columns::WORDS;
 
@@ -52,12 +51,12 @@ impl<'a> Search<'a> {
         mask::disjoint(k, mask::join(self.set, self.done)) && !marked(self.table, self.rest(k))
     }
 
-    // Of the masks of which that is so the one with the fewest actions, and of those the one with the lowest number; 0 where there
-    // is none. A mask with no fewer actions than the best so far is passed over with all that follow it up to its lowest action's
-    // worth, since they contain it; no range has such steps.
-    pub fn fewest(&self) -> u16
+    // Of the masks that `unmarked` takes the one with the fewest actions, and of those the one with the lowest number. A mask with no
+    // fewer actions than the best so far is passed over with all that follow it up to its lowest action's worth, since they contain it;
+    // no range has such steps.
+    pub fn fewest(&self) -> Option<u16>
         ensures { let takes = unmarked self.now.table.now self.now.actions self.now.set self.now.done in
-            result ≡ found_or0 (lightest takes ones (2 ^ self.now.actions)) }
+            Stands result (lightest takes ones (2 ^ self.now.actions)) }
     {
         let sets = covers::sets_of(self.actions);
         let mut best = None;
@@ -73,6 +72,6 @@ impl<'a> Search<'a> {
                 s += 1;
             }
         }
-        best.unwrap_or(0)
+        best
     }
 }

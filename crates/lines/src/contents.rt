@@ -4,7 +4,7 @@
 ghost use Rattle.std.specs.Prelude.{◌≡◌, if◌then◌else◌};
 ghost use Rattle.std.specs.List.{list_all};
 ghost use Rattle.policy.specs.declared.refusal.Refusal.TheVariants.{Malformed};
-ghost use Rattle.format.specs.Format.{is_digit, is_number, spelt, is_letter, kind_of, is_list, parts, decisions_of};
+ghost use Rattle.format.specs.Format.{is_digit, is_number, spelt, is_letter, kind_of, parts};
 ghost use Rattle.lines.specs.Outcomes.{with, list_in};
 
 use policy::{Decisions, Kind, Refusal};
@@ -25,7 +25,8 @@ fn is_number(c: &[u8]) -> bool
     all_digits(c) && matches!(c.len(), 1..=5) && (c.len() == 1 || c[0] != b'0')
 }
 
-// The number that contents spell.
+// The number that contents spell. By hand, since `parse` is of a `str`, which `from_utf8` would first have to make of the bytes, with an
+// error that cannot be.
 #[tactic(auto, using(crate::proofs::Numbers::spelling), unfolding(format::specs::Format::spelt))]
 pub(crate) fn number(c: &[u8]) -> Result<u32, Refusal>
     ensures { result ≡ (if is_number c.now then Ok (spelt 0 c.now) else Err Malformed) }

@@ -1,11 +1,10 @@
 -- The claim holds.
-pub mod Written
 use Rattle.engine.specs.Laws.Few.{few_slim, few_slim_of, list_has_room, never_eight}
 use Rattle.threshold.specs.Laws.Taken.{hundred, decisions_are, rules_are}
 use Rattle.threshold.specs.Laws.Holds.{holds_iff}
 use Rattle.threshold.specs.Laws.Reached.{slim_eight, most_slim_lem, short_list}
 use Rattle.longest.specs.Claim.{Longest}
-use Written.{reads}
+use Rattle.printing.specs.Laws.Longest.{reads}
 
 pub longest : Longest
 longest = record {

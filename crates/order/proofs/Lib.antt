@@ -1,2 +1,2 @@
--- Laws that several of the proofs cite.
+-- What the proofs of `note` cite.
 pub mod Noting

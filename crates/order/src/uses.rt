@@ -1,5 +1,5 @@
 // At which places decisions are asked for.
-ghost use Rattle.std.specs.Prelude.{◌≡◌, ℕ, ◌≤◌, ◌<◌, length, get_or};
+ghost use Rattle.std.specs.Prelude.{ℕ, ◌≤◌, ◌<◌, get_or};
 ghost use mathlib.Core.List.{Memᴰ};
 ghost use Rattle.policy.specs.Record.{most_decisions, listed};
 ghost use Rattle.policy.specs.Laws.{ListFits};
@@ -12,10 +12,8 @@ use policy::{Decisions, MOST_DECISIONS, MOST_RULES};
 // fits would be a second one beside document 01's.
 fn note(list: &Decisions, j: u16, uses: &mut [u16; MOST_DECISIONS])
     requires list_fits { ListFits most_decisions list.now }
-    requires uses_len { length uses.old ≡ most_decisions }
     ensures by_index { (d : ℕ) → Memᴰ d (listed list.now) → get_or uses.new d 0 ≤ j }
     ensures below { Below uses.new uses.old }
-    ensures uses_len_2 { length uses.new ≡ most_decisions }
 {
     for d in list.listed() {
         let first = &mut uses[*d as usize];
@@ -24,13 +22,14 @@ fn note(list: &Decisions, j: u16, uses: &mut [u16; MOST_DECISIONS])
 }
 
 impl Ranged<'_> {
-    // The first place at which each decision is asked for as an if, or 256.
+    // The first place at which each decision is asked for as an if. Where no rule asks for it, 256: it lies past every place, so `min`
+    // and `<=` need no case for none.
     pub(crate) fn noted(&self, order: &[u8; MOST_RULES]) -> [u16; MOST_DECISIONS]
         requires { (j : ℕ) → j < self.now.policy.now.rules → get_or order.now j 0 < self.now.policy.now.rules }
         ensures { Used self.now.policy.now order.now result }
     {
-        let mut uses = [256; MOST_DECISIONS];
-        let rules = &order[..self.policy.rules().len()];
+        let mut uses = [MOST_RULES as u16; MOST_DECISIONS];
+        let rules = policy::front(order, self.policy.rules as usize);
         for (j, k) in rules.iter().enumerate() {
             note(&self.policy.rule[*k as usize].ifs, j as u16, &mut uses);
         }

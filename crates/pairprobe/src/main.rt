@@ -3,31 +3,24 @@
 #![tactic(auto)]
 
 use format::MOST_BYTES;
-use policy::{Policy, Queries};
-use probing::{keyed, text};
+use policy::Queries;
+use probing::{keyed, refused, text};
 use query_lines::Pair;
 
 mod query_lines;
 mod spoilt;
 
 // Writes the lines of two policies and the queries of the first.
-fn answer(before: &Policy, after: &Policy, queries: &Queries) {
-    keyed(b"comparable=", alike::comparable(*before, *after));
+fn answer(pair: &Pair, queries: &Queries) {
+    keyed(b"comparable=", alike::comparable(*pair.before, *pair.after));
     text(b"\n");
-    let pair = Pair { before, after };
     let asked = queries.asked();
-    for query in asked {
-        query_lines::of(&pair, *query);
+    for &query in asked {
+        query_lines::of(pair, query);
     }
     if let Some(first) = asked.first() {
-        spoilt::lines(&pair, *first);
+        spoilt::lines(pair, *first);
     }
-}
-
-// Writes the line of a refusal.
-fn refused(number: u8) {
-    keyed(b"refused=", number);
-    text(b"\n");
 }
 
 fn main() {
@@ -39,9 +32,15 @@ fn main() {
     let after = reader::draft(&second[..n]);
     if before.refusal != 0 {
         refused(before.refusal);
+        text(b"\n");
     } else if after.refusal != 0 {
         refused(after.refusal);
+        text(b"\n");
     } else {
-        answer(&before.policy, &after.policy, &before.queries);
+        let pair = Pair {
+            before: &before.policy,
+            after: &after.policy,
+        };
+        answer(&pair, &before.queries);
     }
 }

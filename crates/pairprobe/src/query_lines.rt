@@ -1,8 +1,8 @@
 // The lines of a query.
 use policy::{Policy, Query};
-use probing::{keyed, named, text};
+use probing::{keyed, named, refused, text};
 
-// Two policies, before a change and after it.
+// Two policies, before a change and after it. A query that is put to both is a parameter of its own, as there are many.
 #[derive(Clone, Copy)]
 pub(crate) struct Pair<'a> {
     pub(crate) before: &'a Policy,
@@ -24,7 +24,7 @@ impl Pair<'_> {
     // Writes what `reprice` returns, and ends the line.
     pub(crate) fn reprice(&self, query: Query) {
         match repricing::reprice(*self.before, *self.after, query) {
-            Err(refusal) => keyed(b"refused=", u8::from(refusal)),
+            Err(refusal) => refused(refusal),
             Ok(None) => text(b"not comparable"),
             Ok(Some(prices)) => {
                 price(b"before=", prices.before);

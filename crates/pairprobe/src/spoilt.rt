@@ -1,17 +1,17 @@
-// The lines of policies in another order, with other entries past their counts, and spoilt so that a question is answered no.
+// The lines of policies swapped, with other entries past their counts, and spoilt so that a question is answered no.
 use crate::query_lines::Pair;
 use policy::{Policy, Query};
 use probing::{Change, text};
 
-// A change with its name in a line, or none for a policy as it is.
-type Way = Option<(&'static [u8], Change)>;
+// A change, with its name in a line.
+type Way = (&'static [u8], Change);
 
 // The ways to spoil a policy.
 const WAYS: [Way; 4] = [
-    Some((b"count", Change::Decisions)),
-    Some((b"falling", Change::Falling)),
-    Some((b"own", Change::OwnUnless)),
-    Some((b"itself", Change::DoesItself)),
+    (b"count", Change::TooManyDecisions),
+    (b"falling", Change::Falling),
+    (b"own", Change::OwnUnless),
+    (b"itself", Change::DoesItself),
 ];
 
 // The policy with the change, or as it is where it has no entry to change.
@@ -19,8 +19,8 @@ fn changed(policy: &Policy, change: Change) -> Policy {
     change.of(policy).unwrap_or(*policy)
 }
 
-// Writes the name of the way, and hands back the policy spoilt so.
-fn spoilt(policy: &Policy, way: Way) -> Policy {
+// Writes the name of the way, and hands back the policy spoilt so, or as it is where there is no way.
+fn spoilt(policy: &Policy, way: Option<Way>) -> Policy {
     let Some((name, change)) = way else {
         text(b"- ");
         return *policy;
@@ -31,7 +31,7 @@ fn spoilt(policy: &Policy, way: Way) -> Policy {
 }
 
 // Writes the line with the policies spoilt in these ways.
-fn line(pair: &Pair, query: Query, first: Way, second: Way) {
+fn spoilt_pair(pair: &Pair, query: Query, first: Option<Way>, second: Option<Way>) {
     let before = spoilt(pair.before, first);
     let after = spoilt(pair.after, second);
     let pair = Pair {
@@ -41,7 +41,7 @@ fn line(pair: &Pair, query: Query, first: Way, second: Way) {
     pair.reprice(query);
 }
 
-// Writes the lines of a query.
+// Writes the lines of other pairs of these policies, repriced for the query: swapped, the first twice, and with changed ones.
 pub(crate) fn lines(pair: &Pair, query: Query) {
     let Pair { before, after } = *pair;
     text(b"swapped ");
@@ -64,12 +64,12 @@ pub(crate) fn lines(pair: &Pair, query: Query) {
     }
     .reprice(query);
     for way in WAYS {
-        line(pair, query, way, None);
-        line(pair, query, None, way);
+        spoilt_pair(pair, query, Some(way), None);
+        spoilt_pair(pair, query, None, Some(way));
     }
     for first in WAYS {
         for second in WAYS {
-            line(pair, query, first, second);
+            spoilt_pair(pair, query, Some(first), Some(second));
         }
     }
 }

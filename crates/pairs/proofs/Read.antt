@@ -1,13 +1,9 @@
 -- The texts of `reprice` by what the reader returns for both files.
 use Prim.Native.Nat.{ℕ}
-use mathlib.Core.Bool.{true, false}
+use mathlib.Core.Bool.{Bool, true, false}
 use mathlib.Core.List.{List, [], ◌∷◌, map}
 use mathlib.Core.Path.{◌≡◌, sym, ◌∙◌, ap₂, subst}
-use lib.ListN.{take}
-use Rattle.engine.specs.Laws.Refusals.{answered, refused}
 use Rattle.alike.specs.Comparable.{comparable}
-use Rattle.std.specs.Slice.{IsItemAt}
-use Rattle.std.specs.Borrow.{Bor}
 use Rattle.std.proofs.Common.{Option, Some, None}
 use Rattle.policy.specs.declared.Query.{Query}
 use Rattle.policy.specs.Record.{asked_of}
@@ -22,10 +18,12 @@ use Rattle.std.proofs.lemmas.Option.{none-some, same_Some}
 use Rattle.std.specs.Result.{result_err}
 use Rattle.std.specs.Option.{option_map}
 use Rattle.std.proofs.Common.{Result, ap, arith, ◌≤◌, zero, suc, refl}
-use Rattle.text.specs.Put.{Puts, refused_text}
-use Rattle.text.specs.Laws.Handed.{Promised, each_over, each_put}
+use Rattle.text.specs.Put.{refused_text}
+use Rattle.text.specs.Laws.Handed.{Promised}
+use Rattle.text.specs.Laws.Refused.{promised_refused, promised_else}
 use Rattle.reader.specs.declared.Reading.{Reading}
 use Rattle.reader.specs.File.{read_of}
+use Rattle.pairs.specs.Laws.Fits.{texts}
 use Rattle.pairs.specs.Texts.{query_text, apart_text, refusal_of, pair_texts, reprice_texts}
 
 -- the number that questions 3 to 6 refuse by
@@ -49,49 +47,32 @@ unfolding refused_or
 none_refused zero e not = refl
 none_refused (suc k) e not = absurd (not (suc k) e)
 
-module _ (s s' : List ℕ) {r r' : Reading} (read : r ≡ read_of s) (read' : r' ≡ read_of s') where
-  files : pair_texts r r' ≡ reprice_texts s s'
+module _ (s s' : List ℕ) {r r' : Reading} (read : r ≡ read_of s) (read' : r' ≡ read_of s') (i : ℕ) (before after : List ℕ) (p : Option ℕ) where
+  -- what is promised of the texts of what the reader returns is promised of the files'
+  of_readings : Promised (pair_texts r r') i before after p → Promised (reprice_texts s s') i before after p
   unfolding reprice_texts
-  files = ap₂ pair_texts read read'
+  of_readings h = subst (λ t. Promised t i before after p) (ap₂ pair_texts read read') h
 
-  refused_texts : {n : ℕ} → n ≡ refusal_of r r' → ¬ (n ≡ 0) → refused_text n ∷ [] ≡ reprice_texts s s'
+  pub of_refused : {n : ℕ} → n ≡ refusal_of r r' → ¬ (n ≡ 0) → Promised (refused_text n ∷ []) i before after p
+      → Promised (reprice_texts s s') i before after p
   unfolding pair_texts
-  refused_texts {n} e some = rw e (sym (refused (refusal_of r r') (λ n. refused_text n ∷ []) _ (λ z. some (e ∙ z)))) ∙ files
+  of_refused e some h =
+      of_readings (promised_refused (refusal_of r r') _ i before after p (λ z. some (e ∙ z))
+      (subst (λ n. Promised (refused_text n ∷ []) i before after p) e h))
 
-  apart_texts : refusal_of r r' ≡ 0 → comparable r.policy r'.policy ≡ false → pair_texts r r' ≡ apart_text ∷ []
-  unfolding pair_texts
-  apart_texts none e = rw e (answered (refusal_of r r') (λ n. refused_text n ∷ []) (apart_text ∷ []) none)
-
-  abbrev query_texts : List (List ℕ)
-  query_texts = map (query_text r.policy r'.policy) (take r.queries.count r.queries.at)
-
-  query_texts_lem : refusal_of r r' ≡ 0 → comparable r.policy r'.policy ≡ true → pair_texts r r' ≡ query_texts
-  unfolding pair_texts
-  query_texts_lem none e = rw e (answered (refusal_of r r') (λ n. refused_text n ∷ []) query_texts none)
-
-  -- what is promised of other texts that are these
-  module _ (i : ℕ) (before : List ℕ) where
-    promised : {texts : List (List ℕ)} (after : List ℕ) (p : Option ℕ) → texts ≡ reprice_texts s s' → Promised texts i before after p
+  module _ (none : refusal_of r r' ≡ 0) where
+    -- of those by whether the policies can be compared
+    of_compared : (b : Bool) → comparable r.policy r'.policy ≡ b → Promised (texts r r' b) i before after p
         → Promised (reprice_texts s s') i before after p
-    promised after p e h = subst (λ (t : List (List ℕ)). Promised t i before after p) e h
+    unfolding pair_texts
+    of_compared b e h =
+        of_readings (promised_else (refusal_of r r') _ i before after p none (subst (λ t. Promised (texts r r' t) i before after p) (sym e) h))
 
-    pub of_refused : {n : ℕ} {after : List ℕ} {p : Option ℕ} → n ≡ refusal_of r r' → ¬ (n ≡ 0)
-        → Promised (refused_text n ∷ []) i before after p → Promised (reprice_texts s s') i before after p
-    of_refused {after = after} {p = p} e some = promised after p (refused_texts e some)
+    pub of_apart : comparable r.policy r'.policy ≡ false → Promised (apart_text ∷ []) i before after p
+        → Promised (reprice_texts s s') i before after p
+    of_apart e h = of_compared false e h
 
-    module _ (none : refusal_of r r' ≡ 0) where
-      pub of_apart : {after : List ℕ} {p : Option ℕ} → comparable r.policy r'.policy ≡ false → Promised (apart_text ∷ []) i before after p
-          → Promised (reprice_texts s s') i before after p
-      of_apart {after} {p} e = promised after p (sym (apart_texts none e) ∙ files)
-
-      module _ (alike : comparable r.policy r'.policy ≡ true) {qs : List Query} (asked : qs ≡ asked_of r.queries) where
-        texts : map (query_text r.policy r'.policy) (asked_of r.queries) ≡ reprice_texts s s'
-        texts = sym (query_texts_lem none alike) ∙ files
-
-        pub queries_over : IsItemAt qs i None → Promised (reprice_texts s s') i before before None
-        queries_over got = promised before None texts (each_over (query_text r.policy r'.policy) asked i before got)
-
-        pub query_put : (q : Bor Query) {after : List ℕ} {n : ℕ} → IsItemAt qs i (Some q)
-            → Puts before 0 (query_text r.policy r'.policy q.now) after n → Promised (reprice_texts s s') i before after (Some n)
-        query_put q {after} {n} got put =
-            promised after (Some n) texts (each_put (query_text r.policy r'.policy) asked i before q got put)
+    pub of_queries : comparable r.policy r'.policy ≡ true → {qs : List Query} → qs ≡ asked_of r.queries
+        → Promised (map (query_text r.policy r'.policy) qs) i before after p → Promised (reprice_texts s s') i before after p
+    of_queries e asked h =
+        of_compared true e (subst (λ l. Promised (map (query_text r.policy r'.policy) l) i before after p) asked h)

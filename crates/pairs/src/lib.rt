@@ -2,14 +2,13 @@
 // costs by both policies.
 #![tactic(auto)]
 
-ghost use Rattle.std.specs.Prelude.{◌≡◌, length};
+ghost use Rattle.std.specs.Prelude.{◌≡◌};
 ghost use Rattle.policy.specs.Questions.{refused_or};
-ghost use Rattle.text.specs.Handing.{handed_out, held_after, Hands};
 ghost use Rattle.pairs.specs.Texts.{price_text, query_text, refusal_of, reprice_texts};
 
 use policy::{Policy, Query};
 use reader::Reading;
-use text::{Bytes, Pen, Refused, Text};
+use text::{Bytes, EntryText, Pen, Refused, Text, Texts};
 
 // No text is longer.
 pub const LONGEST_PRICES: usize = 64;
@@ -30,28 +29,25 @@ impl Text for Cost {
     }
 }
 
-// A query: what it wants, and its least costs by both policies.
+// Two policies, with each query's text: what it wants, and its least costs by both. It is not the `Pair` of `pairprobe`, which writes
+// lines as it goes: a shared struct would be a public type of a library that has no use for it.
 #[derive(Drop)]
-struct Asked<'a> {
+struct Both<'a> {
     before: &'a Policy,
     after: &'a Policy,
-    query: &'a Query,
 }
 
-impl Text for Asked<'_> {
-    ghost text = { λ a. query_text a.before.now a.after.now a.query.now };
+impl EntryText<Query> for Both<'_> {
+    ghost entry_text = { λ b q. query_text b.before.now b.after.now q };
 
     #[tactic(auto, using(text::specs::Laws::Pens::with_both), unfolding(crate::specs::Texts::prices_text))]
-    fn put(&self, pen: &mut Pen<'_>) {
-        pen.line(b"want", &self.query.want);
+    fn put_entry(&self, query: &Query, pen: &mut Pen<'_>) {
+        pen.line(b"want", &query.want);
         pen.line(
             b"before",
-            &Cost(repricing::least_cost(*self.before, *self.query)),
+            &Cost(repricing::least_cost(*self.before, *query)),
         );
-        pen.line(
-            b"after",
-            &Cost(repricing::least_cost(*self.after, *self.query)),
-        );
+        pen.line(b"after", &Cost(repricing::least_cost(*self.after, *query)));
     }
 }
 
@@ -67,29 +63,41 @@ fn refusal(first: &Reading, second: &Reading) -> Option<u8>
     }
     engine::check_record(second.policy, first.queries)
         .err()
-        .map(|refusal| u8::from(refusal))
+        .map(u8::from)
 }
 
-// Text i of `reprice` for two files.
-pub fn reprice(before: &[u8], after: &[u8], i: usize, buffer: &mut [u8]) -> Option<usize>
-    ensures value { result ≡ handed_out (reprice_texts before.now after.now) i (length buffer.old) }
-    ensures buffer_after { buffer.new ≡
-        held_after (reprice_texts before.now after.now) i buffer.old }
-    ensures hands { Hands (reprice_texts before.now after.now) i
-        buffer.old buffer.new result }
-{
-    let first = reader::read(before);
-    let second = reader::read(after);
-    if let Some(number) = refusal(&first, &second) {
-        return text::only(&Refused(number), i, buffer);
+// What `reprice` prints for two files.
+#[derive(Drop)]
+pub struct Pair<'a> {
+    pub before: &'a [u8],
+    pub after: &'a [u8],
+}
+
+impl Texts<LONGEST_PRICES> for Pair<'_> {
+    ghost use Rattle.std.proofs.Common.{lit<};
+    ghost use Rattle.pairs.specs.Laws.Fits.{reprice_fits, few_texts};
+
+    ghost texts = { λ p. reprice_texts p.before.now p.after.now };
+
+    fn text(&self, i: usize, buffer: &mut [u8]) -> Option<usize> {
+        let first = reader::read(self.before);
+        let second = reader::read(self.after);
+        if let Some(number) = refusal(&first, &second) {
+            return text::only(&Refused(number), i, buffer);
+        }
+        if !alike::comparable(first.policy, second.policy) {
+            return text::only(&Bytes(b"not comparable\n"), i, buffer);
+        }
+        let both = Both {
+            before: &first.policy,
+            after: &second.policy,
+        };
+        text::one_each(&both, first.queries.asked(), i, buffer)
     }
-    if !alike::comparable(first.policy, second.policy) {
-        return text::only(&Bytes(b"not comparable\n"), i, buffer);
-    }
-    let asked = Asked {
-        before: &first.policy,
-        after: &second.policy,
-        query: first.queries.asked().get(i)?,
-    };
-    Some(text::start(&asked, buffer))
+
+    ghost small = { lit< tt };
+
+    ghost fit = { λ p. reprice_fits p.before.now p.after.now };
+
+    ghost few = { λ p. few_texts p.before.now p.after.now };
 }

@@ -7,7 +7,7 @@ ghost use Rattle.policy.specs.Refusal.{number_of};
 pub enum Refusal {
     // the input is longer than a file may be
     TooLong = 1,
-    // a line is not as it is due, or something follows the last
+    // a line is not as the format has it, or something follows the last
     Malformed = 2,
     // a number, a mask, a decision or a list is out of range
     OutOfRange = 3,

@@ -1,3 +1,3 @@
 -- Laws that the proofs of the functions cite.
 pub mod Found
-pub mod Rewritten
+pub mod Written

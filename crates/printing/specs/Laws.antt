@@ -1,3 +1,4 @@
 -- Laws of the texts.
 pub mod Fits
 pub mod Rewritten
+pub mod Longest

@@ -1,24 +1,23 @@
-// What `levels`, `rewrite` and `longest` print: one text each, handed out into a lent buffer. A text that has no room there is cut;
-// none is longer than LONGEST_LEVELS or `format::LONGEST_FILE`.
+// What `levels`, `rewrite` and `longest` print: one text each, none longer than LONGEST_LEVELS or `format::LONGEST_FILE`.
 #![tactic(auto)]
 
-ghost use Rattle.std.specs.Prelude.{◌≡◌, length};
-ghost use Rattle.text.specs.Handing.{handed_out, held_after, Hands};
-ghost use Rattle.printing.specs.Texts.{levels_text, levels_texts, rewrite_text, rewrite_texts, longest_texts};
+ghost use Rattle.std.proofs.Common.{lit<};
+ghost use Rattle.printing.specs.Texts.{levels_text, rewrite_text, longest_text};
+ghost use Rattle.printing.specs.Laws.Fits.{levels_fit_lem, rewrite_fits};
+ghost use Rattle.printing.specs.Laws.Longest.{longest_fits};
 
 use format::LONGEST_FILE;
-use policy::MOST_DECISIONS;
 use records::File;
-use text::{Pen, Refused, Text};
+use text::{BoundedText, Pen, Refused, Text};
 
 // No text of `levels` is longer.
 pub const LONGEST_LEVELS: usize = 2176;
 
-// The levels found for a file, or the refusal.
+// What `levels` prints for a file: the levels found for it, or the refusal.
 #[derive(Drop)]
-struct LevelsOf<'a>(&'a [u8]);
+pub struct Levelled<'a>(pub &'a [u8]);
 
-impl Text for LevelsOf<'_> {
+impl Text for Levelled<'_> {
     ghost text = { λ f. levels_text f.0.now };
 
     fn put(&self, pen: &mut Pen<'_>) {
@@ -30,16 +29,25 @@ impl Text for LevelsOf<'_> {
         if found.refusal != 0 {
             return Refused(found.refusal).put(pen);
         }
-        let count = (draft.policy.decisions as usize).min(MOST_DECISIONS);
-        pen.lines(b"level", &found.level[..count]);
+        pen.lines(
+            b"level",
+            policy::front(&found.level, draft.policy.decisions as usize),
+        );
     }
 }
 
-// What the writer makes of a file's record, or the refusal. The reader asks questions 1 to 4, and the writer 5 and 6.
-#[derive(Drop)]
-struct RewriteOf<'a>(&'a [u8]);
+impl BoundedText<LONGEST_LEVELS> for Levelled<'_> {
+    ghost small = { lit< tt };
 
-impl Text for RewriteOf<'_> {
+    ghost fit = { λ f. levels_fit_lem f.0.now 0 };
+}
+
+// What `rewrite` prints for a file: what the writer makes of its record, or the refusal. The reader asks questions 1 to 4, and the writer
+// 5 and 6.
+#[derive(Drop)]
+pub struct Rewritten<'a>(pub &'a [u8]);
+
+impl Text for Rewritten<'_> {
     ghost text = { λ f. rewrite_text f.0.now };
 
     fn put(&self, pen: &mut Pen<'_>) {
@@ -55,36 +63,33 @@ impl Text for RewriteOf<'_> {
     }
 }
 
-// The one text of `levels` for a file.
-pub fn levels(file: &[u8], i: usize, buffer: &mut [u8]) -> Option<usize>
-    ensures value { result ≡ handed_out (levels_texts file.now) i (length buffer.old) }
-    ensures buffer_after { buffer.new ≡ held_after (levels_texts file.now) i buffer.old }
-    ensures hands { Hands (levels_texts file.now) i buffer.old buffer.new result }
-{
-    text::only(&LevelsOf(file), i, buffer)
+impl BoundedText<LONGEST_FILE> for Rewritten<'_> {
+    ghost small = { lit< tt };
+
+    ghost fit = { λ f. rewrite_fits f.0.now 0 };
 }
 
-// The one text of `rewrite` for a file.
-pub fn rewrite(file: &[u8], i: usize, buffer: &mut [u8]) -> Option<usize>
-    ensures value { result ≡ handed_out (rewrite_texts file.now) i (length buffer.old) }
-    ensures buffer_after { buffer.new ≡ held_after (rewrite_texts file.now) i buffer.old }
-    ensures hands { Hands (rewrite_texts file.now) i buffer.old buffer.new result }
-{
-    text::only(&RewriteOf(file), i, buffer)
+// What `longest` prints: the file whose query has the most slim sets.
+#[derive(Drop)]
+pub struct Longest;
+
+impl Text for Longest {
+    ghost text = { λ _. longest_text };
+
+    #[tactic(auto, unfolding(crate::specs::Texts::longest_text))]
+    fn put(&self, pen: &mut Pen<'_>) {
+        let policy = threshold::policy();
+        let queries = threshold::queries();
+        let file = File {
+            policy: &policy,
+            queries: &queries,
+        };
+        file.put(pen);
+    }
 }
 
-// The one text of `longest`: the file whose query has the most slim sets.
-#[tactic(auto, unfolding(crate::specs::Texts::longest_text))]
-pub fn longest(i: usize, buffer: &mut [u8]) -> Option<usize>
-    ensures value { result ≡ handed_out longest_texts i (length buffer.old) }
-    ensures buffer_after { buffer.new ≡ held_after longest_texts i buffer.old }
-    ensures hands { Hands longest_texts i buffer.old buffer.new result }
-{
-    let policy = threshold::policy();
-    let queries = threshold::queries();
-    let file = File {
-        policy: &policy,
-        queries: &queries,
-    };
-    text::only(&file, i, buffer)
+impl BoundedText<LONGEST_FILE> for Longest {
+    ghost small = { lit< tt };
+
+    ghost fit = { λ _. longest_fits 0 };
 }

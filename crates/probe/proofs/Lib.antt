@@ -1,2 +1,2 @@
--- Laws that several of the proofs cite.
+-- Laws that a proof cites.
 pub mod Lengths

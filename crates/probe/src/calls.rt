@@ -4,7 +4,7 @@ ghost use Rattle.engine.specs.Sets.{most_slim};
 
 use engine::MOST_SLIM;
 use policy::{Policy, Query};
-use probing::{keyed, text};
+use probing::{keyed, refused, text};
 use std::array;
 
 // A query put to a policy.
@@ -32,9 +32,9 @@ fn counted<N: Copy + Into<u64>>(entries: &[N], count: u8) {
     keyed(b" tail=", tail as u64);
 }
 
-// The number of the question that check answers no, or 0.
-pub(crate) fn check(policy: &Policy) -> u8 {
-    engine::check(*policy).err().map_or(0, u8::from)
+// Writes what check returns: the number of the refusal, or 0 where there is none.
+pub(crate) fn check(policy: &Policy) {
+    keyed(b"check=", engine::check(*policy).err().map_or(0, u8::from));
 }
 
 // Writes what levels returns.
@@ -45,16 +45,12 @@ pub(crate) fn levels(policy: &Policy) {
     numbers(&found.level);
 }
 
-// The number so far, mixed with each word.
-fn mixed(n: u64, words: &[u64]) -> u64 {
-    let mut mix = n;
-    for word in words {
-        mix ^= *word;
-        mix ^= mix << 13;
-        mix ^= mix >> 7;
-        mix ^= mix << 17;
-    }
-    mix
+// The number so far, mixed with a word.
+fn mixed(n: u64, word: u64) -> u64 {
+    let mut mix = n ^ word;
+    mix ^= mix << 13;
+    mix ^= mix >> 7;
+    mix ^ mix << 17
 }
 
 // Places of which place i holds 50000 + i.
@@ -62,6 +58,17 @@ pub(crate) fn places() -> [u16; MOST_SLIM]
     ensures { most_slim ≡ length result }
 {
     array::from_fn(|i| 50000 + i as u16)
+}
+
+// Writes a name and what is written after it, between a start and an end.
+fn between<F: FnOnce()>(start: &[u8], end: &[u8], name: &[u8], write: F)
+    requires { F.IsAlwaysCallable write }
+{
+    text(start);
+    text(name);
+    text(b" ");
+    write();
+    text(end);
 }
 
 impl Asked<'_> {
@@ -76,7 +83,7 @@ impl Asked<'_> {
     // Writes what judge returns.
     pub(crate) fn judge(&self, offered: u16) {
         match engine::judge(*self.policy, self.query, offered) {
-            Err(refusal) => keyed(b"refused=", u8::from(refusal)),
+            Err(refusal) => refused(refusal),
             Ok(judgement) => {
                 keyed(b"enough=", judgement.enough);
                 keyed(b" cost=", judgement.cost);
@@ -103,30 +110,29 @@ impl Asked<'_> {
 
     // A number made from the words of every w.
     pub(crate) fn digest(&self) -> u64 {
-        let mut n = 0;
-        for w in 0..1024 {
-            n = mixed(n, &engine::words(*self.policy, self.query, w).word);
-        }
-        n
+        (0..1024).fold(0, |n, w| {
+            let words = engine::words(*self.policy, self.query, w).word;
+            words.iter().fold(n, |n, word| mixed(n, *word))
+        })
     }
 
-    // Writes what choose returns, and hands back the number of slim sets in it.
-    pub(crate) fn choose(&self) -> u32 {
+    // Writes what choose returns, and hands back the number of slim sets, where a set is chosen.
+    pub(crate) fn choose(&self) -> Option<u32> {
         match engine::choose(*self.policy, self.query) {
             Err(refusal) => {
-                keyed(b"refused=", u8::from(refusal));
-                0
+                refused(refusal);
+                None
             }
             Ok(None) => {
                 text(b"none");
-                0
+                None
             }
             Ok(Some(choice)) => {
                 keyed(b"mask=", choice.mask);
                 keyed(b" keep=", choice.keep);
                 keyed(b" cost=", choice.cost);
                 keyed(b" slim=", choice.slim);
-                choice.slim
+                Some(choice.slim)
             }
         }
     }
@@ -134,10 +140,21 @@ impl Asked<'_> {
     // Writes what list returns, and the places lent to it.
     pub(crate) fn list(&self, places: &mut [u16]) {
         match engine::list(*self.policy, self.query, places) {
-            Err(refusal) => keyed(b"refused=", u8::from(refusal)),
+            Err(refusal) => refused(refusal),
             Ok(n) => keyed(b"count=", n),
         }
         text(b" places=");
         numbers(places);
+    }
+
+    // Writes what each call returns, for no offered action, four places and the word 0, each between a start and an end.
+    pub(crate) fn calls(&self, start: &[u8], end: &[u8]) {
+        between(start, end, b"judge", || self.judge(0));
+        between(start, end, b"fire", || self.fire(0));
+        between(start, end, b"choose", || {
+            self.choose();
+        });
+        between(start, end, b"list", || self.list(&mut places()[..4]));
+        between(start, end, b"words", || self.words(0));
     }
 }

@@ -4,8 +4,8 @@
 
 use calls::Asked;
 use format::MOST_BYTES;
-use policy::{Policy, Queries};
-use probing::{keyed, text};
+use probing::{refused, text};
+use records::File;
 
 mod calls;
 mod query_lines;
@@ -14,28 +14,24 @@ mod spoilt_queries;
 mod written;
 
 // Writes the lines of a file.
-fn answer(policy: &Policy, queries: &Queries) {
-    keyed(b"check=", calls::check(policy));
+fn answer(file: &File) {
+    let File { policy, queries } = *file;
+    calls::check(policy);
     text(b"\nlevels ");
     calls::levels(policy);
     text(b"\n");
-    written::lines(policy, queries);
-    let asked = queries.asked();
-    for query in asked {
-        let query = *query;
+    written::lines(file);
+    for &query in queries.asked() {
         query_lines::of(&Asked { policy, query });
     }
-    if let Some(first) = asked.first() {
-        let query = *first;
-        spoilt::lines(&Asked { policy, query }, queries);
-        spoilt_queries::lines(policy, queries);
-    }
+    spoilt::lines(file);
+    spoilt_queries::lines(file);
 }
 
 // Writes the lines of a file with more than 8 actions: those of each query, and few of these.
-fn answer_many(policy: &Policy, queries: &Queries) {
-    for query in queries.asked() {
-        let query = *query;
+fn answer_many(file: &File) {
+    let File { policy, queries } = *file;
+    for &query in queries.asked() {
         query_lines::of_many(&Asked { policy, query });
     }
 }
@@ -45,13 +41,17 @@ fn main() {
     let n = io::read_full(0, &mut input);
     let reading = reader::read(&input[..n]);
     if reading.refusal != 0 {
-        keyed(b"refused=", reading.refusal);
+        refused(reading.refusal);
         text(b"\n");
         return;
     }
+    let file = File {
+        policy: &reading.policy,
+        queries: &reading.queries,
+    };
     if reading.policy.actions > 8 {
-        answer_many(&reading.policy, &reading.queries);
+        answer_many(&file);
     } else {
-        answer(&reading.policy, &reading.queries);
+        answer(&file);
     }
 }

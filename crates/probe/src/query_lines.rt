@@ -10,7 +10,7 @@ pub(crate) fn past(actions: u8) -> u16 {
 }
 
 // Writes a line: a text, a number, and what is written after them.
-pub(crate) fn line<F: FnOnce()>(key: &[u8], n: u16, write: F)
+pub(crate) fn line<N: Into<u64>, F: FnOnce()>(key: &[u8], n: N, write: F)
     requires { F.IsAlwaysCallable write }
 {
     keyed(key, n);
@@ -35,15 +35,12 @@ fn offers(asked: &Asked) {
 
 // Writes the line of a list with these places.
 fn list(asked: &Asked, places: &mut [u16]) {
-    keyed(b"list ", places.len() as u64);
-    text(b" ");
-    asked.list(places);
-    text(b"\n");
+    line(b"list ", places.len() as u64, || asked.list(places));
 }
 
 // Writes the lines of the lists with at most one place more than there are slim sets.
 fn lists(asked: &Asked, slim: u32) {
-    for n in 0..(slim as usize + 2).min(301) {
+    for n in 0..=(slim as usize + 1).min(MOST_SLIM) {
         list(asked, &mut places()[..n]);
     }
 }
@@ -64,31 +61,9 @@ fn words(asked: &Asked) {
     }
 }
 
-// Writes the line of a call, under the name of what is over.
-fn over_line<F: FnOnce()>(name: &[u8], call: &[u8], write: F)
-    requires { F.IsAlwaysCallable write }
-{
-    text(name);
-    text(b" over ");
-    text(call);
-    text(b" ");
-    write();
-    text(b"\n");
-}
-
-// Writes the lines of a query out of range, under the name of what is over.
-fn over(asked: &Asked, name: &[u8]) {
-    over_line(name, b"judge", || asked.judge(0));
-    over_line(name, b"fire", || asked.fire(0));
-    over_line(name, b"choose", || {
-        asked.choose();
-    });
-    over_line(name, b"list", || asked.list(&mut places()[..4]));
-    over_line(name, b"words", || asked.words(0));
-}
-
-// Writes the line of the best set, and hands back the number of slim sets.
-fn choose(asked: &Asked) -> u32 {
+// Writes the line of the best set, and hands back the number of slim sets, where a set is chosen. With none, the lists are as with
+// 0 slim sets (PROBE.md).
+fn choose(asked: &Asked) -> Option<u32> {
     text(b"choose ");
     let slim = asked.choose();
     text(b"\n");
@@ -99,7 +74,7 @@ fn choose(asked: &Asked) -> u32 {
 // one place fewer, some words, and the digest of all.
 pub(crate) fn of_many(asked: &Asked) {
     named(asked.query);
-    let slim = (choose(asked) as usize).min(MOST_SLIM);
+    let slim = (choose(asked).unwrap_or(0) as usize).min(MOST_SLIM);
     for n in slim.saturating_sub(1)..=slim {
         list(asked, &mut places()[..n]);
     }
@@ -116,20 +91,16 @@ pub(crate) fn of(asked: &Asked) {
     named(query);
     offers(asked);
     let slim = choose(asked);
-    lists(asked, slim);
+    lists(asked, slim.unwrap_or(0));
     words(asked);
-    over(
-        &asked.with(Query {
-            want: policy.decisions,
-            ..query
-        }),
-        b"want",
-    );
-    over(
-        &asked.with(Query {
-            done: past(policy.actions),
-            ..query
-        }),
-        b"done",
-    );
+    let want = Query {
+        want: policy.decisions,
+        ..query
+    };
+    asked.with(want).calls(b"want over ", b"\n");
+    let done = Query {
+        done: past(policy.actions),
+        ..query
+    };
+    asked.with(done).calls(b"done over ", b"\n");
 }

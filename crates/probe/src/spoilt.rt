@@ -1,21 +1,22 @@
 // The lines of spoilt policies: the policy with one thing changed, a query put to it, and the policy written with the queries.
-use crate::calls::{self, Asked, places};
+use crate::calls::{self, Asked};
 use crate::written::{stars, write};
-use policy::{Queries, Query};
-use probing::{Change, keyed, text};
+use policy::Query;
+use probing::{Change, text};
+use records::File;
 
 // The changes, with the names of their lines.
 const CHANGES: [(&[u8], Change); 12] = [
-    (b"decisions", Change::Decisions),
-    (b"actions", Change::Actions),
-    (b"rules", Change::Rules),
-    (b"level", Change::Level),
+    (b"decisions", Change::TooManyDecisions),
+    (b"actions", Change::TooManyActions),
+    (b"rules", Change::TooManyRules),
+    (b"level", Change::LevelTooHigh),
     (b"past", Change::LastLevel),
     (b"weight", Change::Weightless),
     (b"also", Change::DoesAll),
     (b"itself", Change::DoesItself),
     (b"head", Change::Head),
-    (b"list", Change::Nine),
+    (b"list", Change::NineIfs),
     (b"falling", Change::Falling),
     (b"own", Change::OwnUnless),
 ];
@@ -38,40 +39,36 @@ fn late(asked: &Asked) {
 }
 
 // Writes the line of a spoilt policy.
-fn line(name: &[u8], asked: &Asked, queries: &Queries) {
+fn spoilt_policy(name: &[u8], file: &File, query: Query) {
+    let asked = Asked {
+        policy: file.policy,
+        query,
+    };
     text(b"spoilt ");
     text(name);
-    keyed(b" check=", calls::check(asked.policy));
-    text(b" judge ");
-    asked.judge(0);
-    text(b" fire ");
-    asked.fire(0);
-    text(b" choose ");
-    asked.choose();
-    text(b" list ");
-    asked.list(&mut places()[..4]);
-    text(b" words ");
-    asked.words(0);
-    late(asked);
+    text(b" ");
+    calls::check(file.policy);
+    asked.calls(b" ", b"");
+    late(&asked);
     text(b" levels ");
-    calls::levels(asked.policy);
+    calls::levels(file.policy);
     text(b" write ");
-    write(asked.policy, queries, &mut stars());
+    write(file, &mut stars());
     text(b"\n");
 }
 
-// Writes the lines of each spoilt policy.
-pub(crate) fn lines(asked: &Asked, queries: &Queries) {
+// Writes the lines of each spoilt policy, where there is a query to put to it.
+pub(crate) fn lines(file: &File) {
+    let Some(first) = file.queries.asked().first() else {
+        return;
+    };
     for (name, change) in CHANGES {
-        if let Some(policy) = change.of(asked.policy) {
-            line(
-                name,
-                &Asked {
-                    policy: &policy,
-                    query: asked.query,
-                },
-                queries,
-            );
+        if let Some(policy) = change.of(file.policy) {
+            let spoilt = File {
+                policy: &policy,
+                queries: file.queries,
+            };
+            spoilt_policy(name, &spoilt, *first);
         }
     }
 }

@@ -2,19 +2,21 @@
 use crate::query_lines::past;
 use crate::written::{stars, write};
 use policy::{Policy, Queries, Query};
-use probing::{Change, text};
+use probing::{Change, text, with_last};
+use records::File;
 
-// Writes the line of a lent buffer.
-fn line(name: &[u8], policy: &Policy, queries: &Queries, buffer: &mut [u8]) {
+// Writes the line of a lent buffer. It takes the parts of a `File`: tried with one, which the borrow checker does not cover when it is
+// made in `lines` (a reference at an intersection of lifetimes); from a function of the two parts it proves, and the calls are longer.
+fn spoilt_file<'a>(name: &[u8], policy: &'a Policy, queries: &'a Queries, buffer: &mut [u8]) {
     text(b"spoilt ");
     text(name);
     text(b" write ");
-    write(policy, queries, buffer);
+    write(&File { policy, queries }, buffer);
     text(b"\n");
 }
 
-// The queries with another last one.
-fn with_last(queries: &Queries, query: Query) -> Queries {
+// The queries with another one for the last that is asked.
+fn with_last_asked(queries: &Queries, query: Query) -> Queries {
     let mut q = *queries;
     let place = q.count.saturating_sub(1) as usize;
     if let Some(last) = q.at.get_mut(place) {
@@ -25,15 +27,16 @@ fn with_last(queries: &Queries, query: Query) -> Queries {
 
 // The queries with another entry past their count.
 fn unused_queries(queries: &Queries) -> Queries {
-    let mut q = *queries;
-    if q.count < 64 {
-        q.at[63] = Query { want: 7, done: 7 };
+    let sevens = Query { want: 7, done: 7 };
+    Queries {
+        at: with_last(queries.at, queries.count as usize, sevens),
+        ..*queries
     }
-    q
 }
 
 // Writes the lines with a count out of range, the last query out of range, and unused entries changed.
-pub(crate) fn lines(policy: &Policy, queries: &Queries) {
+pub(crate) fn lines(file: &File) {
+    let File { policy, queries } = *file;
     let Some(last) = queries.asked().last() else {
         return;
     };
@@ -41,28 +44,28 @@ pub(crate) fn lines(policy: &Policy, queries: &Queries) {
         count: 65,
         ..*queries
     };
-    line(b"count", policy, &count, &mut stars());
-    line(b"short", policy, &count, &mut []);
-    let want = with_last(
+    spoilt_file(b"count", policy, &count, &mut stars());
+    spoilt_file(b"short", policy, &count, &mut []);
+    let want = with_last_asked(
         queries,
         Query {
             want: policy.decisions,
             ..*last
         },
     );
-    line(b"want", policy, &want, &mut stars());
+    spoilt_file(b"want", policy, &want, &mut stars());
     if let Some(own) = Change::OwnUnless.of(policy) {
-        line(b"both", &own, &want, &mut stars());
+        spoilt_file(b"both", &own, &want, &mut stars());
     }
-    let done = with_last(
+    let done = with_last_asked(
         queries,
         Query {
             done: past(policy.actions),
             ..*last
         },
     );
-    line(b"done", policy, &done, &mut stars());
+    spoilt_file(b"done", policy, &done, &mut stars());
     if let Some(unused) = Change::Unused.of(policy) {
-        line(b"unused", &unused, &unused_queries(queries), &mut stars());
+        spoilt_file(b"unused", &unused, &unused_queries(queries), &mut stars());
     }
 }

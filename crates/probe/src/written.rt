@@ -1,10 +1,11 @@
 // What the writer returns, and the buffer lent to it.
-ghost use Rattle.std.specs.Prelude.{◌≤◌, ◌≡◌, length};
+ghost use Rattle.std.specs.Prelude.{◌≤◌, ◌≡◌, All, IfSome, length};
 ghost use Rattle.format.specs.Bounds.{longest_file};
 
+use crate::query_lines::line;
 use format::LONGEST_FILE;
-use policy::{Policy, Queries};
-use probing::{keyed, text};
+use probing::{keyed, refused, text};
+use records::File;
 
 // So many bytes are lent; no accepted file is longer.
 const LENT: usize = 27300;
@@ -17,11 +18,11 @@ pub(crate) fn stars() -> [u8; LENT]
 }
 
 // Writes what write returns, and the bytes lent to it: how many are still stars, or those of the file and three more.
-pub(crate) fn write(policy: &Policy, queries: &Queries, buffer: &mut [u8]) {
-    match writer::write(*policy, *queries, buffer) {
+pub(crate) fn write(file: &File, buffer: &mut [u8]) {
+    match writer::write(*file.policy, *file.queries, buffer) {
         Err(refusal) => {
             let kept = buffer.iter().filter(|b| **b == b'*').count();
-            keyed(b"refused=", u8::from(refusal));
+            refused(refusal);
             keyed(b" kept=", kept as u64);
         }
         Ok(n) => {
@@ -32,25 +33,31 @@ pub(crate) fn write(policy: &Policy, queries: &Queries, buffer: &mut [u8]) {
     }
 }
 
-// The length of the file, or 1 where it is refused.
-fn file_length(policy: &Policy, queries: &Queries) -> usize
-    ensures { (1 ≤ result) × (result ≤ longest_file) }
+// The length of the file, or none where it is refused.
+fn file_length(file: &File) -> Option<usize>
+    ensures { IfSome result (λ n. (1 ≤ n) × (n ≤ longest_file)) }
 {
-    writer::write(*policy, *queries, &mut [0; LONGEST_FILE]).unwrap_or(1)
+    writer::write(*file.policy, *file.queries, &mut [0; LONGEST_FILE]).ok()
+}
+
+// The lengths of the buffers to lend: too short for the file, just long enough, and longer; any few, where it is refused.
+fn lengths(file: &File) -> [usize; 4]
+    ensures { All (λ n. n ≤ 27300) result }
+{
+    match file_length(file) {
+        Some(n) => [0, n - 1, n, n + 3],
+        None => [0, 0, 1, 4],
+    }
 }
 
 // Writes the line of a lent buffer.
-fn line(policy: &Policy, queries: &Queries, buffer: &mut [u8]) {
-    keyed(b"write ", buffer.len() as u64);
-    text(b" ");
-    write(policy, queries, buffer);
-    text(b"\n");
+fn lent(file: &File, buffer: &mut [u8]) {
+    line(b"write ", buffer.len() as u64, || write(file, buffer));
 }
 
-// Writes the lines of buffers too short, just long enough, and longer.
-pub(crate) fn lines(policy: &Policy, queries: &Queries) {
-    let n = file_length(policy, queries);
-    for length in [0, n - 1, n, n + 3] {
-        line(policy, queries, &mut stars()[..length]);
+// Writes the lines of buffers of these lengths.
+pub(crate) fn lines(file: &File) {
+    for length in lengths(file) {
+        lent(file, &mut stars()[..length]);
     }
 }

@@ -3,19 +3,19 @@ ghost use Rattle.std.specs.Prelude.{◌≡◌};
 ghost use Rattle.probing.specs.Changed.{changed, has_room, change_of, two};
 
 use super::unused::unused;
-use policy::{Decisions, Policy};
+use policy::{Decisions, MOST_DECISIONS, Policy};
 
 // A change of a policy. `LastLevel` and `Unused` change no entry that counts; with any other a question is answered no.
 #[derive(Clone, Copy)]
 pub enum Change {
     // 129 decisions
-    Decisions,
+    TooManyDecisions,
     // 17 actions
-    Actions,
+    TooManyActions,
     // 257 rules
-    Rules,
+    TooManyRules,
     // level 0 is 16
-    Level,
+    LevelTooHigh,
     // the last level is 9
     LastLevel,
     // action 0 weighs nothing
@@ -27,7 +27,7 @@ pub enum Change {
     // the head of rule 0 is no decision
     Head,
     // rule 0 has 9 if decisions
-    Nine,
+    NineIfs,
     // the if decisions of rule 0 fall
     Falling,
     // rule 0 has its own head as its one unless decision
@@ -53,9 +53,9 @@ impl Change {
     {
         match self {
             Change::Weightless | Change::DoesAll | Change::DoesItself => policy.actions >= 1,
-            Change::Head | Change::Nine | Change::OwnUnless => policy.rules >= 1,
+            Change::Head | Change::NineIfs | Change::OwnUnless => policy.rules >= 1,
             Change::Falling => policy.rules >= 1 && policy.decisions >= 2,
-            Change::LastLevel => policy.decisions < 128,
+            Change::LastLevel => (policy.decisions as usize) < MOST_DECISIONS,
             _ => true,
         }
     }
@@ -66,18 +66,18 @@ impl Change {
     {
         let mut p = *policy;
         match self {
-            Change::Decisions => p.decisions = 129,
-            Change::Actions => p.actions = 17,
-            Change::Rules => p.rules = 257,
-            Change::Level => p.level[0] = 16,
+            Change::TooManyDecisions => p.decisions = 129,
+            Change::TooManyActions => p.actions = 17,
+            Change::TooManyRules => p.rules = 257,
+            Change::LevelTooHigh => p.level[0] = 16,
             Change::Weightless => p.action[0].weight = 0,
             Change::DoesAll => p.action[0].also = 65535,
             Change::DoesItself => p.action[0].also = 1,
             Change::Head => p.rule[0].head = p.decisions,
-            Change::Nine => p.rule[0].ifs.count = 9,
+            Change::NineIfs => p.rule[0].ifs.count = 9,
             Change::Falling => p.rule[0].ifs = list(2, 1, 0),
             Change::OwnUnless => p.rule[0].unless = list(1, p.rule[0].head, 0),
-            Change::LastLevel => p.level[127] = 9,
+            Change::LastLevel => p.level[MOST_DECISIONS - 1] = 9,
             Change::Unused => return unused(policy),
         }
         p

@@ -116,7 +116,7 @@ pub fn weights_fit(policy: &Policy) -> bool
         .all(|action| action.outweighs(policy))
 }
 
-// Puts questions 3 to 6 to the policy: `rest` answers 3 for what else is given.
+// Puts questions 3 to 6 to the policy: `rest` says whether what else is given is in range.
 #[tactic(auto, unfolding(policy::specs::Questions::first_no, policy::specs::Questions::questions, policy::specs::Refusal::outcome, policy::specs::Refusal::refusal_of))]
 pub fn ask(policy: &Policy, rest: bool) -> Result<(), Refusal>
     ensures { result ≡ outcome (first_no (questions policy.now rest)) }

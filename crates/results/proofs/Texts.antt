@@ -7,15 +7,17 @@ use lib.Seq.{take-append_seam}
 use Rattle.policy.specs.declared.Policy.{Policy}
 use Rattle.policy.specs.declared.Query.{Query}
 use Rattle.policy.specs.Questions.{first_no}
-use Rattle.std.proofs.Common.{Some, None, Ok, Err}
+use Rattle.std.proofs.Common.{Option, Some, None, Result, Ok, Err}
+use Rattle.policy.specs.declared.refusal.Refusal.{Refusal}
 use Rattle.policy.specs.Refusal.{refuse}
 use Rattle.engine.specs.declared.Firing.{Firing}
 use Rattle.engine.specs.Sets.{most_slim}
-use Rattle.engine.specs.Calls.{Answer, refused_or, slim_sets, list_questions, choose_of, list_of, list_after}
+use Rattle.engine.specs.Calls.{refused_or, slim_sets, list_questions, list_of, list_after}
 use Rattle.format.specs.Text.{ascii, decimal}
 use Rattle.format.specs.Written.{line_of}
+use Rattle.results.specs.declared.Best.{Best}
 use Rattle.results.specs.declared.QueryResult.{QueryResult}
-use Rattle.results.specs.Laws.Worked.{Worked, ForBest}
+use Rattle.results.specs.Laws.Worked.{chosen, ForBest, Answered, Worked, worked_text}
 use Rattle.results.specs.Printed.{written, answer_text, sets_listed, rules_fired, result_text}
 
 -- the entries of the lent list below the number of those written
@@ -43,31 +45,27 @@ module _ (p : Policy) (q : Query) where
   lent_same before e = lent before most_slim e ∙ sym (lent (replicate most_slim 0) most_slim (length-replicate {A = ℕ} most_slim 0))
 
   -- where Choose names a set, the sets listed and the rules fired are those of the definition
-  listed_same : (r : QueryResult) (before after : List ℕ) → length before ≡ most_slim → (best : ℕ) → ForBest p q best r before after
-      → take (written r.listing) after ≡ sets_listed p q
-  listed_same r before after e best b = rw (b.listing, b.listed, e) (lent_same before e)
+  listed_same : (b : Best) (before after : List ℕ) → length before ≡ most_slim → ForBest p q b before after
+      → take (written b.listing) after ≡ sets_listed p q
+  listed_same b before after e f = rw (f.listing, f.listed, e) (lent_same before e)
 
-  fired_same : (r : QueryResult) (before after : List ℕ) (best : ℕ) → ForBest p q best r before after
-      → take r.firing.count r.firing.rules ≡ rules_fired p q best
+  fired_same : (b : Best) (before after : List ℕ) → ForBest p q b before after
+      → take b.firing.count b.firing.rules ≡ rules_fired p q b.choice.mask
   unfolding rules_fired
-  fired_same r before after best b = ap (λ (f : Firing). take f.count f.rules) b.firing
+  fired_same b before after f = ap (λ (x : Firing). take x.count x.rules) f.firing
 
-  -- where Choose answers this, the lines are those of its answer
-  lines_by : (r : QueryResult) (before after : List ℕ) → length before ≡ most_slim → Worked p q r before after
-      → (a : Answer) → choose_of p q ≡ a
-      → answer_text a (take (written r.listing) after) (λ _. take r.firing.count r.firing.rules)
-      ≡ answer_text a (sets_listed p q) (rules_fired p q)
+  -- the lines of an answer are those of what Choose returns
+  lines_same : (before after : List ℕ) → length before ≡ most_slim → (a : Result (Option Best) Refusal) → Answered p q a before after
+      → worked_text a after ≡ answer_text (chosen a) (sets_listed p q) (rules_fired p q)
   unfolding answer_text
-  lines_by r before after e w (Err n) chosen = refl
-  lines_by r before after e w (Ok None) chosen = refl
-  lines_by r before after e w (Ok (Some c)) chosen =
-      let b = w.best c chosen in
-      rw (listed_same r before after e c.mask b, fired_same r before after c.mask b)
+  lines_same before after e (Err n) w = refl
+  lines_same before after e (Ok None) w = refl
+  lines_same before after e (Ok (Some b)) w =
+      let f = w.best b refl in
+      rw (listed_same b before after e f, fired_same b before after f) refl
 
   -- the text of a result
   pub same_result : (r : QueryResult) (before after : List ℕ) → length before ≡ most_slim → Worked p q r before after
-      → line_of (ascii "want") (decimal r.want)
-      ++ answer_text r.answer (take (written r.listing) after) (λ _. take r.firing.count r.firing.rules)
-      ≡ result_text p q
+      → line_of (ascii "want") (decimal r.want) ++ worked_text r.answer after ≡ result_text p q
   unfolding result_text
-  same_result r before after e w = rw (w.want, w.answer, lines_by r before after e w (choose_of p q) refl)
+  same_result r before after e w = rw (w.want, ← w.answered.answer, lines_same before after e r.answer w.answered) refl

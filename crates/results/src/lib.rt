@@ -2,29 +2,51 @@
 #![tactic(auto)]
 
 ghost use Rattle.std.specs.Prelude.{◌≡◌, ◌++◌, length, take};
-ghost use Rattle.engine.specs.Sets.{most_slim};
 ghost use Rattle.format.specs.Text.{ascii, decimal};
 ghost use Rattle.format.specs.Written.{line_of, commas};
 ghost use Rattle.text.specs.Put.{with_text};
-ghost use Rattle.text.specs.Handing.{handed_out, held_after, Hands};
-ghost use Rattle.results.specs.Laws.Worked.{Worked};
+ghost use Rattle.results.specs.Laws.Worked.{Answered, Worked, worked_text};
 ghost use Rattle.results.specs.Printed.{written, answer_text, result_text, clear_texts};
 
 use engine::{Choice, Firing, MOST_SLIM};
-use policy::{MOST_DECISIONS, Policy, Query, Refusal};
-use text::{Bytes, Pen, Refused, Text};
+use policy::{Policy, Query, Refusal};
+use text::{Bytes, EntryText, Pen, Refused, Text, Texts};
 
 // No query's text is longer.
 pub const LONGEST_RESULT: usize = 80000;
 
-// What the calls return for a query: the answer, and where it is a choice the sets listed and the rules fired for the best. Document
-// 01 has each query's result hold the choice; where there is none, none is listed or fired.
+// What the calls return for the best set of a query: the choice, how many sets are listed, and the rules fired.
+#[derive(Clone, Copy)]
+struct Best {
+    choice: Choice,
+    listing: Result<u32, Refusal>,
+    firing: Firing,
+}
+
+// What the calls return for a query. Document 01 has each query's result hold the choice.
 #[derive(Clone, Copy)]
 struct QueryResult {
     want: u8,
-    answer: Result<Option<Choice>, Refusal>,
-    listing: Result<u32, Refusal>,
-    firing: Firing,
+    answer: Result<Option<Best>, Refusal>,
+}
+
+// What the calls answer for a query; its slim sets are written into the lent list, where there is a best.
+fn answer(
+    policy: &Policy,
+    query: &Query,
+    places: &mut [u16; MOST_SLIM],
+) -> Result<Option<Best>, Refusal>
+    ensures answered { Answered policy.now query.now result places.old places.new }
+    ensures places_len_unchanged { length places.new ≡ length places.old }
+{
+    let Some(choice) = engine::choose(*policy, *query)? else {
+        return Ok(None);
+    };
+    Ok(Some(Best {
+        choice,
+        listing: engine::list(*policy, *query, places),
+        firing: engine::fire(*policy, *query, choice.mask),
+    }))
 }
 
 // Works a query, and writes its slim sets into the lent list.
@@ -32,24 +54,9 @@ fn work(policy: &Policy, query: &Query, places: &mut [u16; MOST_SLIM]) -> QueryR
     ensures worked { Worked policy.now query.now result places.old places.new }
     ensures places_len_unchanged { length places.new ≡ length places.old }
 {
-    let answer = engine::choose(*policy, *query);
-    match answer {
-        Ok(Some(choice)) => QueryResult {
-            want: query.want,
-            answer,
-            listing: engine::list(*policy, *query, places),
-            firing: engine::fire(*policy, *query, choice.mask),
-        },
-        _ => QueryResult {
-            want: query.want,
-            answer,
-            listing: Ok(0),
-            firing: Firing {
-                refusal: 0,
-                count: 0,
-                rules: [0u8; MOST_DECISIONS],
-            },
-        },
+    QueryResult {
+        want: query.want,
+        answer: answer(policy, query, places),
     }
 }
 
@@ -82,8 +89,7 @@ fn put_list(pen: &mut Pen<'_>, listing: Result<u32, Refusal>, places: &[u16; MOS
     ensures { pen.new ≡ with_text
         (line_of (ascii "list") (commas (take (written listing) places.now))) pen.old }
 {
-    let count = listed(listing).min(MOST_SLIM);
-    pen.list(b"list", &places[..count]);
+    pen.list(b"list", policy::front(places, listed(listing)));
 }
 
 // Puts the line of the rules fired.
@@ -92,59 +98,61 @@ fn put_fired(pen: &mut Pen<'_>, firing: &Firing)
     ensures { pen.new ≡ with_text
         (line_of (ascii "fired") (commas (take firing.now.count firing.now.rules))) pen.old }
 {
-    let count = (firing.count as usize).min(MOST_DECISIONS);
-    pen.list(b"fired", &firing.rules[..count]);
+    pen.list(b"fired", firing.listed());
 }
 
 // Puts the lines of a result after its first.
 #[tactic(auto, using(text::specs::Laws::Pens::with_both), unfolding(crate::specs::Printed::answer_text))]
 fn put_answer(pen: &mut Pen<'_>, res: &QueryResult, places: &[u16; MOST_SLIM])
-    ensures { pen.new ≡ with_text
-        (answer_text res.now.answer (take (written res.now.listing) places.now)
-        (λ _. take res.now.firing.count res.now.firing.rules)) pen.old }
+    ensures { pen.new ≡ with_text (worked_text res.now.answer places.now) pen.old }
 {
-    match res.answer {
+    match &res.answer {
         Err(refusal) => refusal.put(pen),
         Ok(None) => pen.line(b"best", &Bytes(b"none")),
-        Ok(Some(choice)) => {
-            put_choice(pen, &choice);
-            put_list(pen, res.listing, places);
-            put_fired(pen, &res.firing);
+        Ok(Some(best)) => {
+            put_choice(pen, &best.choice);
+            put_list(pen, best.listing, places);
+            put_fired(pen, &best.firing);
         }
     }
 }
 
-// A query put to a policy, by what the calls return for it.
+// A policy, with each query's text by what the calls return for it.
 #[derive(Drop)]
-struct Asked<'a> {
-    policy: &'a Policy,
-    query: &'a Query,
-}
+struct Asked<'a>(&'a Policy);
 
-impl Text for Asked<'_> {
-    ghost text = { λ a. result_text a.policy.now a.query.now };
+impl EntryText<Query> for Asked<'_> {
+    ghost entry_text = { λ a q. result_text a.0.now q };
 
-    fn put(&self, pen: &mut Pen<'_>) {
+    fn put_entry(&self, query: &Query, pen: &mut Pen<'_>) {
         let mut places = [0u16; MOST_SLIM];
-        let result = work(self.policy, self.query, &mut places);
+        let result = work(self.0, query, &mut places);
         pen.line(b"want", &result.want);
         put_answer(pen, &result, &places);
     }
 }
 
-// Text i of `clear` for a file: its refusal, or one text for each query.
-pub fn clear(file: &[u8], i: usize, buffer: &mut [u8]) -> Option<usize>
-    ensures value { result ≡ handed_out (clear_texts file.now) i (length buffer.old) }
-    ensures buffer_after { buffer.new ≡ held_after (clear_texts file.now) i buffer.old }
-    ensures hands { Hands (clear_texts file.now) i buffer.old buffer.new result }
-{
-    let reading = reader::read(file);
-    if reading.refusal != 0 {
-        return text::only(&Refused(reading.refusal), i, buffer);
+// What `clear` prints for a file: its refusal, or one text for each query.
+#[derive(Drop)]
+pub struct Cleared<'a>(pub &'a [u8]);
+
+impl Texts<LONGEST_RESULT> for Cleared<'_> {
+    ghost use Rattle.std.proofs.Common.{lit<};
+    ghost use Rattle.results.specs.Laws.Texts.{clear_fits, few_texts};
+
+    ghost texts = { λ f. clear_texts f.0.now };
+
+    fn text(&self, i: usize, buffer: &mut [u8]) -> Option<usize> {
+        let reading = reader::read(self.0);
+        if reading.refusal != 0 {
+            return text::only(&Refused(reading.refusal), i, buffer);
+        }
+        text::one_each(&Asked(&reading.policy), reading.queries.asked(), i, buffer)
     }
-    let asked = Asked {
-        policy: &reading.policy,
-        query: reading.queries.asked().get(i)?,
-    };
-    Some(text::start(&asked, buffer))
+
+    ghost small = { lit< tt };
+
+    ghost fit = { λ f. clear_fits f.0.now };
+
+    ghost few = { λ f. few_texts f.0.now };
 }

@@ -41,7 +41,7 @@ impl FiredRules {
     }
 }
 
-// Each of the decisions is held.
+// Whether each of the decisions is held.
 fn all_held(held: &[bool; MOST_DECISIONS], decisions: &[u8]) -> bool
     requires { All (λ d. d < most_decisions) decisions.now }
     ensures { result ≡ list_all (λ d. is_held held.now d) decisions.now }
@@ -49,7 +49,7 @@ fn all_held(held: &[bool; MOST_DECISIONS], decisions: &[u8]) -> bool
     decisions.iter().all(|d| held[*d as usize])
 }
 
-// None of the decisions is held. It differs from `all_held` in the test, and not in a type or a number.
+// Whether none of the decisions is held. It differs from `all_held` in the test, and not in a type or a number.
 fn none_held(held: &[bool; MOST_DECISIONS], decisions: &[u8]) -> bool
     requires { All (λ d. d < most_decisions) decisions.now }
     ensures { result ≡ list_all (λ d. not (is_held held.now d)) decisions.now }
@@ -57,8 +57,8 @@ fn none_held(held: &[bool; MOST_DECISIONS], decisions: &[u8]) -> bool
     decisions.iter().all(|d| !held[*d as usize])
 }
 
-// The rule can fire: its head is not held yet, and the world and the marks are as it asks. A call of its own, since the scan asks it
-// of few rules and its loop is then shorter. The rule is required to fit: a type for one that does would be a second one beside
+// Whether the rule can fire: its head is not held yet, and the world and the marks are as it asks. A call of its own, since the scan asks
+// it of few rules and its loop is then shorter. The rule is required to fit: a type for one that does would be a second one beside
 // document 01's.
 #[inline(never)]
 #[tactic(auto, unfolding(model::specs::Fire::can_fire))]
@@ -108,7 +108,8 @@ fn scan(policy: &Policy, want: u8, world: u16) -> FiredRules
     }
 }
 
-// The rules that fire in the world of the set. No other function here asks for an accepted policy and query.
+// The rules that fire in the world of the set. Beside `words::Plan::new` this alone requires an accepted policy and query: a plan has them,
+// but a fire looks neither at what actions lead to nor at an order of the rules.
 pub fn fired(policy: &Policy, query: Query, set: u16) -> FiredRules
     requires { Accepted policy.now query }
     ensures count_value { result.count ≡ length (fired_for policy.now query set) }

@@ -31,10 +31,6 @@ pub record Works (p : Policy) (order : List ℕ) (from to : ℕ) (words before a
   pub right : (q : Query) (w sets n : ℕ) → Accepted p q → Part p q w sets n order from to words
       → Right p q w sets n before → Right p q w sets n after
 
-pub works_none : {p : Policy} {order : List ℕ} {from to : ℕ} {words held : List ℕ} → AreWords 128 held
-    → Works p order from to words held held
-works_none good = record { fits = good; right = λ q w sets n ok part r. r }
-
 pub works_more : {p : Policy} {order : List ℕ} {from to : ℕ} {words first held next : List ℕ} → Works p order from to words first held
     → Works p order from to words held next → Works p order from to words first next
 works_more one two = record {
@@ -45,12 +41,6 @@ works_more one two = record {
 -- one rule is tried, at any place of the level
 module _ {p : Policy} {order : List ℕ} {from to : ℕ} {words first held : List ℕ} {j : ℕ} (range : InRange p) (hand : Hand p order from to)
     (works : Works p order from to words first held) (low : from ≤ j) (below : j < to) where
-  pub any_index : j < 256
-  any_index = omega (arith, hand.fits)
-
-  pub any_small : get_or order j 0 < 256
-  any_small = omega (arith, hand.rules j low below, range.rules)
-
   pub any_rule : RuleFits 128 16 (rule_of p (get_or order j 0))
   any_rule = rule_wider range.decisions range.actions (range.rule (get_or order j 0) (hand.rules j low below))
 
@@ -75,16 +65,6 @@ pub record AtPlace (p : Policy) (order : List ℕ) (from to : ℕ) (words first 
   pub idle : again ≡ false → Quiet p order from j words held
   pub grown : total first ≤ total held
   pub moved : again ≡ true → total first < total held
-
-pub at_first : {p : Policy} {order : List ℕ} {from to : ℕ} {words held : List ℕ} → AreWords 128 held
-    → AtPlace p order from to words held held false from
-at_first good = record {
-  low = le_refl _;
-  works = works_none good;
-  idle = λ e i l h. absurd (omega arith);
-  grown = le_refl _;
-  moved = λ e. absurd (true≢false (sym e));
-}
 
 module _ {p : Policy} {order : List ℕ} {from to : ℕ} {words first held : List ℕ} {again : Bool} {j : ℕ}
     (range : InRange p) (hand : Hand p order from to) (at : AtPlace p order from to words first held again j) (below : j < to) where

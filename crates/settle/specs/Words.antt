@@ -1,14 +1,14 @@
 -- Words of sets: bit i of a word stands for the i-th of 64 sets.
-use Rattle.std.specs.Prelude.{ℕ, List, [], ◌∷◌, get_or, set}
+use Rattle.std.specs.Prelude.{ℕ, List, get_or, set}
+use Rattle.std.specs.List.{fold}
 use Rattle.std.specs.Int.Bits.{bit_and, bit_or}
 use Rattle.mask.specs.Laws.Packed.{minus}
 use Rattle.policy.specs.declared.Rule.{Rule}
 use Rattle.policy.specs.Record.{listed}
 
 -- an operation with the word of each decision listed, in turn
-unfoldable pub folded : (ℕ → ℕ → ℕ) → List ℕ → ℕ → List ℕ → ℕ
-folded f held word [] = word
-folded f held word (d ∷ ds) = folded f held (f word (get_or held d 0)) ds
+abbrev pub folded : (ℕ → ℕ → ℕ) → List ℕ → ℕ → List ℕ → ℕ
+folded f held = fold (λ word d. f word (get_or held d 0))
 
 -- those of the sets in which every decision listed is held
 abbrev pub all_of : List ℕ → ℕ → List ℕ → ℕ

@@ -6,30 +6,26 @@ ghost use Rattle.settle.specs.Words.{all_of, none_of, added_of, grown};
 
 use policy::{Decisions, MOST_DECISIONS, Rule};
 
-// Those of the sets in which every decision of the list is held. That its entries are decisions is required here and below: a type
-// for a list that fits would be a second one beside document 01's.
+// Those of the sets in which every decision of the list is held. That a list fits, and for `add` a rule, is required: a type for what
+// fits would be a second one beside document 01's.
 fn all_held(held: &[u64; MOST_DECISIONS], list: &Decisions, sets: u64) -> u64
     requires { ListFits most_decisions list.now }
     ensures { result ≡ all_of held.now sets (listed list.now) }
 {
-    let mut word = sets;
-    for d in list.listed() {
-        word = word & held[*d as usize];
-    }
-    word
+    list.listed()
+        .iter()
+        .fold(sets, |word, d| word & held[*d as usize])
 }
 
-// Those of the sets in which no decision of the list is held. It differs from `all_held` in what it does with a word, and not in a type or a
-// number.
+// Those of the sets in which no decision of the list is held. It differs from `all_held` in what it does with a word, and not in a type
+// or a number.
 fn none_held(held: &[u64; MOST_DECISIONS], list: &Decisions, sets: u64) -> u64
     requires { ListFits most_decisions list.now }
     ensures { result ≡ none_of held.now sets (listed list.now) }
 {
-    let mut word = sets;
-    for d in list.listed() {
-        word = word ^ (word & held[*d as usize]);
-    }
-    word
+    list.listed()
+        .iter()
+        .fold(sets, |word, d| word ^ (word & held[*d as usize]))
 }
 
 // Adds the rule's head in those of the sets that enable it in which it is not held yet, each if is and no unless is: these sets.
@@ -45,6 +41,6 @@ pub(crate) fn add(rule: &Rule, enabled: u64, held: &mut [u64; MOST_DECISIONS]) -
     }
     let ready = all_held(held, &rule.ifs, fresh);
     let more = none_held(held, &rule.unless, ready);
-    held[head] = held[head] | more;
+    held[head] |= more;
     more
 }

@@ -18,7 +18,7 @@ use Rattle.policy.proofs.Arrays.{front_entry}
 use Rattle.policy.specs.Questions.{others_in_range, lists_rise}
 use Rattle.policy.specs.Laws.{InRange}
 use Rattle.strata.specs.Levels.{above, asked, small, lowest, refused_levels, found_levels}
-use Rattle.strata.specs.Laws.Raised.{above_more, total_small, EachSmall, Reached, Since, raise, reached_none, asked_below}
+use Rattle.strata.specs.Laws.Raised.{above_more, total_small, EachSmall, Reached, Since, reached_none, asked_below}
 use Rattle.strata.specs.Laws.Raised.{reached_raise, raise_small, since_raised, since_kept}
 use Rattle.strata.specs.Laws.Levels.{small_each, each_small, met_fits, reached_lowest, lowest_fits, lowest_only, others_range}
 use Rattle.strata.specs.Laws.Levels.{found_nine, found_lowest}
@@ -44,6 +44,10 @@ module _ {level : List ℕ} {step own : ℕ} {ds : List ℕ} {lowest i : ℕ} (s
   pub over_all : length ds ≤ i → lowest ≡ above level step own ds
   over_all h = so.same ∙ ap (above level step own) (take_all i ds h)
 
+-- question 3 is answered yes, the levels left out
+pub range : (p : Policy) → others_in_range p ≡ true → InRange (with_levels p (replicate 128 0))
+range p three = others_range p (passes (others_in_range p) three)
+
 module _ (p : Policy) where
   -- as a round starts
   pub record AtRound (level : List ℕ) : Type 0 where
@@ -65,16 +69,13 @@ module _ (p : Policy) where
 
   -- questions 3 and 4 are answered yes
   module _ (three : others_in_range p ≡ true) (four : lists_rise p ≡ true) where
-    range : InRange (with_levels p (replicate 128 0))
-    range = others_range p (passes (others_in_range p) three)
-
     -- no levels from 0 to 15 meet a rule that asks for more
     too_high : (k : ℕ) (level : List ℕ) → k < p.rules → Reached p level → 15 < asked level (rule_of p k) → refused_levels 9 ≡ found_levels p
     too_high k level h reached high = sym (found_nine p three four (is_false (small p (lowest p)) (λ t.
         omega (
           arith,
-          small_each p (lowest p) (reached_lowest p range) t (head_of p k),
-          asked_below p range k h reached (lowest p) (lowest_fits p range t),
+          small_each p (lowest p) (reached_lowest p (range p three)) t (head_of p k),
+          asked_below p (range p three) k h reached (lowest p) (lowest_fits p (range p three) t),
         ))))
 
     -- rule k has this head and asks for so much
@@ -84,17 +85,18 @@ module _ (p : Policy) where
       pub turn_raised : get_or level head 0 < need → need ≤ 15 → AtTurn before (k + 1) (set level head need) true
       turn_raised more low =
           let now = so.now.reached in
+          let known = range p three in
           let high : get_or level (head_of p k) 0 < asked level (rule_of p k) = rw (← is, ← asks) more in
           rw (is, asks) (record {
-            now = record { reached = reached_raise p range k h now; small = raise_small p range k h now so.now.small (rw (← asks) low) };
-            since = since_raised p range k h before now high raised so.since;
+            now = record { reached = reached_raise p known k h now; small = raise_small p known k h now so.now.small (rw (← asks) low) };
+            since = since_raised p known k h before now high raised so.since;
           })
 
       -- or is met as it is
       pub turn_kept : need ≤ get_or level head 0 → AtTurn before (k + 1) level raised
       turn_kept low =
           let met : asked level (rule_of p k) ≤ get_or level (head_of p k) 0 = rw (← is, ← asks) low in
-          record { now = so.now; since = rw add-one (since_kept p range k h before so.now.reached met raised so.since) }
+          record { now = so.now; since = rw add-one (since_kept p (range p three) k h before so.now.reached met raised so.since) }
 
     -- no level was raised by all rules: they are the lowest
     pub rounds_end : {before : List ℕ} {k : ℕ} {level : List ℕ} {raised : Bool} → p.rules ≤ k
@@ -103,7 +105,7 @@ module _ (p : Policy) where
         let since = rw idle at so.since in
         let t = each_small p level so.now.small in
         let f = met_fits p level (λ j l. rw since.0 (since.1 j (omega arith))) in
-        let same = lowest_only p range level so.now.reached t f in
+        let same = lowest_only p (range p three) level so.now.reached t f in
         rw same (sym (found_lowest p three four (is_true (small p (lowest p)) (rw (← same) t))))
 
   -- else another round follows, and fewer are left: the sum of 128 levels is at most 1,920

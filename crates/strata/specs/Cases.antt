@@ -1,6 +1,5 @@
 -- The levels of document 01's run, computed from the definitions: those that its file has are the lowest.
 use Rattle.std.specs.Prelude.{[], ◌∷◌, ◌≡◌, refl, replicate}
-use Rattle.std.specs.List.{list_all}
 use Rattle.policy.specs.Questions.{first_no, others_in_range, counts_in_range, level_in_range, action_in_range, rule_in_range, list_in_range}
 use Rattle.policy.specs.Questions.{lists_rise, rule_rises, rises, levels_fit, rule_levels_fit, levels_below, refused_or}
 use Rattle.policy.specs.declared.Policy.{Policy}

@@ -8,8 +8,8 @@ ghost use Rattle.strata.specs.Laws.Raised.{EachSmall};
 
 use policy::{Decisions, HIGHEST_LEVEL, MOST_DECISIONS, Policy, Refusal, Rule};
 
-// The lowest level, from `own` up, that lies at least `step` above that of each decision of the list. That its entries are decisions
-// is required: a type for a list that fits would be a second one beside document 01's.
+// The lowest level, from `own` up, that lies at least `step` above that of each decision of the list. That a list fits, and
+// for `asked` a rule, is required: a type for one that does would be a second one beside document 01's.
 fn above(level: &[u8; MOST_DECISIONS], step: u8, own: u8, list: &Decisions) -> u8
     requires each_small { EachSmall level.now }
     requires step_bound { step ≤ 1 }
@@ -38,8 +38,8 @@ fn asked(level: &[u8; MOST_DECISIONS], rule: &Rule) -> u8
 // past 15: so there are at most 1,921 rounds of at most 256 rules.
 #[tactic(auto, using(crate::proofs::Rounds::asks_or_refused))]
 pub(crate) fn lowest(policy: &Policy) -> Result<[u8; MOST_DECISIONS], Refusal>
-    requires policy_value { others_in_range policy.now ≡ true }
-    requires policy_value_2 { lists_rise policy.now ≡ true }
+    requires range { others_in_range policy.now ≡ true }
+    requires rise { lists_rise policy.now ≡ true }
     ensures { levelling result ≡ found_levels policy.now }
 {
     let mut level = [0u8; MOST_DECISIONS];

@@ -1,4 +1,5 @@
-// Text put into a lent buffer with a pen. Its modules put lists of texts, and hand texts out one at a time.
+// Text put into a lent buffer with a pen. Its modules put the lines of a record's entries and lists of texts, and hand texts out one at a
+// time.
 #![tactic(auto)]
 
 ghost use Rattle.std.specs.Prelude.{ℕ, ◌≡◌, List};
@@ -13,13 +14,13 @@ mod entries;
 mod lists;
 mod texts;
 
-pub use texts::{Texts, only, print, start};
+pub use texts::{BoundedText, EntryText, One, Texts, one_each, only, print, start};
 
 // A lent buffer, and where the text in it ends. Bytes that do not fit are dropped.
 #[derive(Drop)]
 pub struct Pen<'a> {
-    buffer: &'a mut [u8],
-    at: usize,
+    pub buffer: &'a mut [u8],
+    pub at: usize,
 }
 
 // What can be put with a pen. It is not `Display`, which for the record's types would have to stand in `policy`, below the definitions
@@ -32,7 +33,7 @@ pub trait Text {
         ensures { pen.new ≡ with_text (text self.now) pen.old };
 }
 
-// A number, by its digits: an impl for each width, since one for all of them would overlap those below.
+// A number, by its digits: an impl for each width, since one for all of them would overlap those for `Bytes`, `Refused` and `Refusal`.
 impl Text for u32 {
     ghost text = { decimal };
 

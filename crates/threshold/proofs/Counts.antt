@@ -8,14 +8,14 @@ use native.Mathlib.Numerals.{add-one}
 use native.Mathlib.Omega.{arith}
 use lib.Dec.{ltb}
 use lib.ListN.{length, length-append}
-use Rattle.threshold.specs.AtLeast.{There, wide, decisions_to, without, first_for, rules_for, row, rows}
+use Rattle.threshold.specs.AtLeast.{There, decisions_about, decisions_to, without, first_for, rules_for, row, rows}
 
 pub decisions_few : (n : ℕ) → decisions_to n ≤ n * 8
 unfolding decisions_to
 decisions_few zero = le_refl 0
 decisions_few (suc n) = omega (arith, decisions_few n)
 
-pub decisions_more : (n : ℕ) → decisions_to (n + 1) ≡ decisions_to n + wide (n + 1)
+pub decisions_more : (n : ℕ) → decisions_to (n + 1) ≡ decisions_to n + decisions_about (n + 1)
 unfolding decisions_to
 decisions_more n = rw add-one
 
@@ -40,8 +40,8 @@ row_few i (suc n) = simp length-append (omega (arith, row_few i n, rules_few i (
 pub rows_few : (n : ℕ) → length (rows n) ≤ n * 16
 unfolding rows
 rows_few zero = le_refl 0
-rows_few (suc n) = simp length-append (omega (arith, rows_few n, row_few (suc n) (wide (suc n))))
+rows_few (suc n) = simp length-append (omega (arith, rows_few n, row_few (suc n) (decisions_about (suc n))))
 
 -- the decision that a turn of the loops is about
-pub there : {i j end : ℕ} → i < 17 → 1 ≤ j → j < end + 1 → end ≡ wide i → There i j
+pub there : {i j end : ℕ} → i < 17 → 1 ≤ j → j < end + 1 → end ≡ decisions_about i → There i j
 there h some few e = record { actions = omega arith; some = some; eight = omega arith; fits = omega arith }

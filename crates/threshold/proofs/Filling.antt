@@ -13,7 +13,7 @@ use Rattle.policy.specs.declared.Rule.{Rule}
 use Rattle.policy.specs.declared.Action.{Action}
 use Rattle.policy.specs.Record.{no_action}
 use Rattle.format.specs.Entries.{record_of, zero_rule}
-use Rattle.threshold.specs.AtLeast.{There, wide, without, having, first_for, rules_for, row, rows, plain, with_rule, with_rules}
+use Rattle.threshold.specs.AtLeast.{There, decisions_about, without, having, first_for, rules_for, row, rows, plain, with_rule, with_rules}
 use Rattle.threshold.proofs.Counts.{rules_few, row_few, rows_few}
 
 -- the policy with these rules
@@ -73,16 +73,16 @@ unfolding before row
 row_starts i e = rw append-nil e
 
 -- after the last decision about the first i actions
-rows_step : (i : ℕ) → 1 ≤ i → rows i ≡ rows (i - 1) ++ row i (wide i)
+rows_step : (i : ℕ) → 1 ≤ i → rows i ≡ rows (i - 1) ++ row i (decisions_about i)
 unfolding rows
 rows_step zero some = absurd (omega arith)
 rows_step (suc i) some = let less : suc i - 1 ≡ i = omega arith in rw less
 
-pub row_ends : {p : Policy} (i j : ℕ) → 1 ≤ i → j ≡ wide i + 1 → p ≡ holding (before i j) → p ≡ holding (rows (i + 1 - 1))
+pub row_ends : {p : Policy} (i j : ℕ) → 1 ≤ i → j ≡ decisions_about i + 1 → p ≡ holding (before i j) → p ≡ holding (rows (i + 1 - 1))
 unfolding before
 row_ends i j some e h =
     let less : i + 1 - 1 ≡ i = omega arith in
-    let last : j - 1 ≡ wide i = omega arith in
+    let last : j - 1 ≡ decisions_about i = omega arith in
     rw (less, rows_step i some) (rw last at h)
 
 -- and with its own rules, those before the next

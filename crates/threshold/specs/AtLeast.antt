@@ -20,13 +20,13 @@ pub record There (i j : ℕ) : Type 0 where
   pub fits : j ≤ i
 
 -- how many decisions there are about the first i actions
-abbrev pub wide : ℕ → ℕ
-wide i = min i 8
+abbrev pub decisions_about : ℕ → ℕ
+decisions_about i = min i 8
 
 -- and about the first 1, 2 .. i actions
 unfoldable pub decisions_to : ℕ → ℕ
 decisions_to zero = 0
-decisions_to (suc i) = decisions_to i + wide (suc i)
+decisions_to (suc i) = decisions_to i + decisions_about (suc i)
 
 -- the number of a decision: they stand by rising i, then rising j from 1
 unfoldable pub number : ℕ → ℕ → ℕ
@@ -58,7 +58,7 @@ row i (suc n) = row i n ++ rules_for i (suc n)
 -- and of those about the first 1, 2 .. n actions
 unfoldable pub rows : ℕ → List Rule
 rows zero = []
-rows (suc n) = rows n ++ row (suc n) (wide (suc n))
+rows (suc n) = rows n ++ row (suc n) (decisions_about (suc n))
 
 -- each action is a provision of weight 1 that does no other
 unfoldable pub plain : Action

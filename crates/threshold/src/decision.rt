@@ -1,26 +1,26 @@
 // The decisions "at least j of the first i", and their rules.
 ghost use Rattle.std.specs.Prelude.{◌<◌, ◌≤◌, [], ◌∷◌, ◌≡◌};
 ghost use Rattle.format.specs.Format.{decisions_of};
-ghost use Rattle.threshold.specs.AtLeast.{There, decisions_to, fewer, having, number, wide, without};
+ghost use Rattle.threshold.specs.AtLeast.{There, decisions_to, fewer, having, number, decisions_about, without};
 
 use format::list_of_none;
 use policy::{Decisions, Rule};
 
 // How many decisions there are about the first i actions.
-pub(crate) fn wide(i: u8) -> u8
-    ensures { result ≡ wide i }
+pub(crate) fn decisions_about(i: u8) -> u8
+    ensures { result ≡ decisions_about i }
 {
     i.min(8)
 }
 
-// How many decisions there are about the first 1, 2 .. i actions. Of a chain with sum it was not proved that the sum fits.
+// How many decisions there are about the first 1, 2 .. i actions. With `sum` the proof that it fits a byte did not close.
 fn decisions_to(i: u8) -> u8
     requires { i ≤ 16 }
     ensures { result ≡ decisions_to i }
 {
     let mut n = 0;
     for k in 0..i {
-        n += wide(k + 1);
+        n += decisions_about(k + 1);
     }
     n
 }

@@ -5,10 +5,9 @@ ghost use Rattle.std.specs.Prelude.{◌<◌, ◌≤◌, ◌≡◌};
 ghost use Rattle.policy.specs.Record.{most_rules};
 ghost use Rattle.threshold.specs.AtLeast.{plain, rules_for, with_rule, with_rules, at_least, stated};
 
-use decision::{AtLeast, wide};
+use decision::{AtLeast, decisions_about};
 use policy::{
-    Action, Kind, MOST_ACTIONS, MOST_DECISIONS, MOST_QUERIES, MOST_RULES, Policy, Queries, Query,
-    Rule,
+    Action, Kind, MOST_ACTIONS, MOST_DECISIONS, MOST_QUERIES, MOST_RULES, Policy, Queries, Rule,
 };
 
 mod decision;
@@ -45,7 +44,7 @@ fn add_rules(policy: &mut Policy, decision: AtLeast)
     add(policy, decision.having());
 }
 
-// The policy.
+// Of 100 decisions, their rules one decision after the other.
 pub fn policy() -> Policy
     ensures { result ≡ at_least }
 {
@@ -57,9 +56,9 @@ pub fn policy() -> Policy
         action: [plain(); MOST_ACTIONS],
         rule: [format::zero_rule(); MOST_RULES],
     };
-    // with 1..=16 the proof has no name for what holds after the last turn
+    // with `..=` the proof has no name for what holds after the last turn, in both loops
     for i in 1..17 {
-        for j in 1..wide(i) + 1 {
+        for j in 1..decisions_about(i) + 1 {
             add_rules(&mut policy, AtLeast { i, j });
         }
     }
@@ -70,7 +69,7 @@ pub fn policy() -> Policy
 pub fn queries() -> Queries
     ensures { result ≡ stated.queries }
 {
-    let mut at = [Query { want: 0, done: 0 }; MOST_QUERIES];
+    let mut at = [format::zero_query(); MOST_QUERIES];
     at[0].want = AtLeast { i: 16, j: 8 }.number();
     Queries { count: 1, at }
 }

@@ -11,10 +11,10 @@ use policy::Policy;
 // The running cost of a set once action a is counted, whose weight it gains if the set has it. `Bounded` keeps it far below what
 // 32 bits hold.
 fn with_action(sum: u32, set: u16, a: usize, weight: u16) -> u32
-    requires a_lt_most_actions { a < most_actions }
+    requires action { a < most_actions }
     requires bounded { Bounded a sum }
     ensures value { result ≡ sum + cond (has set a) weight 0 }
-    ensures bounded_2 { Bounded (a + 1) result }
+    ensures still_bounded { Bounded (a + 1) result }
 {
     if mask::has(set, a) {
         sum + weight as u32
@@ -23,7 +23,8 @@ fn with_action(sum: u32, set: u16, a: usize, weight: u16) -> u32
     }
 }
 
-// The cost of a set of the policy's actions: the sum of the weights.
+// The cost of a set of the policy's actions: the sum of the weights. It is no iterator's sum, since that promises nothing of the sums on
+// the way, whose bound `with_action` asks for and keeps.
 #[tactic(auto, unfolding(crate::specs::Cost::cost_of))]
 pub fn cost(policy: &Policy, set: u16) -> u32
     ensures { result ≡ cost_of policy.now set }

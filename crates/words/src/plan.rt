@@ -25,7 +25,7 @@ pub struct Plan {
 }
 
 impl Plan {
-    // What is required here the plan holds from then on.
+    // Finds what actions lead to beside what is done, and an order of the rules. What is required here the plan holds from then on.
     pub fn new(policy: &Policy, query: Query) -> Plan
         requires { Accepted policy.now query }
         ensures same_policy { result.policy ≡ policy.now }
@@ -40,14 +40,15 @@ impl Plan {
         }
     }
 
-    // For each place of the order those of the sets that enable its rule.
+    // For each place of the order those of the sets that enable its rule. The place is counted: a zip with the array's `iter_mut` was
+    // tried, and of an array written through it nothing is known after the loop.
     fn enabling(&self, fours: &[u64; 64], sets: u64) -> [u64; MOST_RULES]
         ensures tabled { Tabled (λ j. needed_of fours.now (rule_of self.now.policy (get_or self.now.order.rules j 0)).needs sets)
             most_rules result self.now.policy.rules }
         ensures are_words { AreWords most_rules result }
     {
         let mut enabled = [0; MOST_RULES];
-        let order = &self.order.rules[..self.policy.rules().len()];
+        let order = policy::front(&self.order.rules, self.policy.rules as usize);
         for (j, k) in order.iter().enumerate() {
             enabled[j] = columns::needed(fours, self.policy.rule[*k as usize].needs, sets);
         }
@@ -83,7 +84,7 @@ impl Plan {
         ensures { result ≡ word_of self.now.policy self.now.query w.w self.now.query.want }
     {
         let want = self.query.want as usize;
-        let word = self.worked(w, self.policy.level[want] as usize + 1);
-        word[want]
+        let words = self.worked(w, self.policy.level[want] as usize + 1);
+        words[want]
     }
 }

@@ -24,6 +24,7 @@ use Rattle.writer.specs.Claim.{AcceptedRecord}
 use Rattle.writer.specs.Laws.Room.{early}
 use Rattle.writer.specs.Laws.Saved.{length_written, file_written, write_means}
 
+-- p, qs and `before` are written out at each use: tried: implicit, they were not determined
 module _ (p : Policy) (qs : Queries) {vs ws : List Val}
     (own : shadow ((policy.the_row).own_val p vs)) (owns : shadow ((queries.the_row).own_val qs ws)) where
   -- a record that a function owns is in arrays of its structs' lengths

@@ -9,11 +9,11 @@ pub returns-in-Err : goal.returns-in-Err
 returns-in-Err c = words_refused _ _ _ (sym c.in-Err.is ∙ c.of_word.ensures) c.from.ensures
 
 pub new-requires : goal.new-requires
-new-requires c = (word_accepted _ _ _ (outcome_ok _ (sym c.in_default.is ∙ c.of_word.ensures))).0
+new-requires c = (word_accepted _ _ _ (outcome_ok _ (sym c.in-Ok.is ∙ c.of_word.ensures))).0
 
 pub invariant_of-model : goal.invariant_of-model
-invariant_of-model c = record { within = (word_accepted _ _ _ (outcome_ok _ (sym c.in_default.is ∙ c.of_word.ensures))).1 }
+invariant_of-model c = record { within = (word_accepted _ _ _ (outcome_ok _ (sym c.in-Ok.is ∙ c.of_word.ensures))).1 }
 
-pub returns : goal.returns
-returns c = words_answered _ _ _ (outcome_ok _ (sym c.in_default.is ∙ c.of_word.ensures))
-    (rw (c.new.ensures.same_policy, c.new.ensures.same_query) at c.model-word.ensures)
+pub returns-in-Ok : goal.returns-in-Ok
+returns-in-Ok c = words_answered _ _ _ (outcome_ok _ (sym c.in-Ok.is ∙ c.of_word.ensures))
+    (rw (c.new.ensures.same_policy, c.new.ensures.same_query) at c.model.ensures)

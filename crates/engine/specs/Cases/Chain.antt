@@ -2,7 +2,6 @@
 use Rattle.std.specs.Prelude.{true, [], ◌∷◌, ◌≡◌, refl}
 use Rattle.std.proofs.Common.{inr, lit<}
 use Rattle.std.proofs.Math.Option.{some}
-use Rattle.std.specs.List.{list_all}
 use Rattle.base.specs.Every.{every_below, some_below}
 use Rattle.mask.specs.Laws.{disjoint_iff}
 use Rattle.mask.specs.Family.{minimal, lightest, lighter}

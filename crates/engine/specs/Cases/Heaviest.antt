@@ -1,7 +1,6 @@
 -- The bound of document 02's F-4 is reached: 16 actions of weight 65,535, all of which are needed.
 use Rattle.std.specs.Prelude.{true, ◌≡◌, refl}
 use Rattle.std.proofs.Common.{lit<}
-use Rattle.std.specs.List.{list_all}
 use Rattle.base.specs.Every.{every_below}
 use Rattle.mask.specs.Laws.{disjoint_iff}
 use Rattle.policy.specs.Questions.{first_no, questions, query_in_range, in_range, others_in_range, counts_in_range, level_in_range, action_in_range}

@@ -2,7 +2,6 @@
 use Rattle.std.specs.Prelude.{true, false, [], ◌∷◌, ◌≡◌, refl, Some, None, Ok}
 use Rattle.std.proofs.Math.Option.{none, some}
 use Rattle.std.specs.Int.Count.{ones, ones_in}
-use Rattle.std.specs.List.{list_all}
 use Rattle.base.specs.Every.{every_below, some_below}
 use Rattle.mask.specs.Family.{among, minimal, lightest, lighter}
 use Rattle.policy.specs.Questions.{first_no, questions, query_in_range, in_range, others_in_range, counts_in_range, level_in_range, action_in_range}

@@ -1,6 +1,5 @@
 -- The words of document 01's run, computed from the definitions.
 use Rattle.std.specs.Prelude.{◌∷◌, ◌≡◌, refl, replicate}
-use Rattle.std.specs.List.{list_all}
 use Rattle.base.specs.Every.{every_below, some_below}
 use Rattle.base.specs.Lists.{table}
 use Rattle.mask.specs.Packed.{packed}

@@ -13,7 +13,7 @@ use Rattle.mask.specs.Laws.Among.{among_counted}
 use Rattle.mask.specs.Laws.Minimal.{minimal_taken, minimal_least}
 use Rattle.policy.specs.declared.Policy.{Policy}
 use Rattle.policy.specs.declared.refusal.Refusal.TheVariants.{ListTooShort}
-use Rattle.policy.specs.Refusal.{number_of, refuse}
+use Rattle.policy.specs.Refusal.{refuse}
 use Rattle.policy.specs.Laws.Refusals.{number_of_refusal}
 use Rattle.policy.specs.declared.Query.{Query}
 use Rattle.policy.specs.Questions.{first_no, query_in_range, query_questions, Accepted}

@@ -2,11 +2,11 @@
 use Rattle.std.proofs.Common.{sym, ◌∙◌}
 use Rattle.policy.specs.Laws.{accepted_range}
 use Rattle.keep.specs.Laws.Marked.{keep_of_is}
+use Rattle.keep.proofs.Choosing.{stands_is}
 use Rattle.keep.proofs.keep_off.Goals as goal
 
 pub invariant_of-search : goal.invariant_of-search
-invariant_of-search c =
-    record { within = rw c.marks-table.ensures.same_plan (accepted_range _ _ c.args.words.now.plan.accepted).actions }
+invariant_of-search c = record { within = (accepted_range _ _ c.args.words.now.plan.accepted).actions }
 
-pub returns-clause-value : goal.returns-clause-value
-returns-clause-value c = rw c.marks-table.ensures.same_plan at c.fewest.ensures ∙ sym (keep_of_is _ _ _ _ _ c.marks-table.ensures.table)
+pub returns : goal.returns
+returns c = c.unwrap_or.ensures ∙ stands_is c.fewest.ensures ∙ sym (keep_of_is _ _ _ _ _ c.marks-table.ensures)

@@ -4,15 +4,14 @@ use Rattle.std.proofs.Math.Bool.{true, false}
 use Rattle.std.proofs.Common.{sym, ◌∙◌, arith, length-append, length-take}
 use Rattle.std.proofs.Math.Decide.{ℕ_discrete}
 use Rattle.std.proofs.lemmas.List.{length-map}
-use Rattle.engine.specs.Laws.Refusals.{answered, refused}
+use Rattle.engine.specs.Laws.Refusals.{refused}
 use Rattle.alike.specs.Comparable.{comparable}
 use Rattle.repricing.specs.Call.{Price}
 use Rattle.repricing.specs.declared.Prices.{Prices}
 use Rattle.format.specs.Laws.Lengths.{ten_digits, line_length}
-use Rattle.text.specs.Put.{refused_text}
 use Rattle.text.specs.Handing.{text_at}
-use Rattle.text.specs.Laws.Entries.{refused_length}
 use Rattle.text.specs.Laws.Handed.{only_fits, each_fits}
+use Rattle.text.specs.Laws.Refused.{refused_fits, refused_few}
 use Rattle.reader.specs.declared.Reading.{Reading}
 use Rattle.reader.specs.File.{read_of}
 use Rattle.reader.specs.Laws.States.{states}
@@ -29,7 +28,8 @@ query_length want c =
     simp (length-append, line_length) (omega (arith, ten_digits want, price_length c.before, price_length c.after))
 
 module _ (r r' : Reading) where
-  abbrev texts : Bool → List (List ℕ)
+  -- the texts by whether the policies can be compared
+  abbrev pub texts : Bool → List (List ℕ)
   texts b = elim b [
     | true ↦ map (query_text r.policy r'.policy) (take r.queries.count r.queries.at)
     | false ↦ apart_text ∷ []
@@ -42,41 +42,31 @@ module _ (r r' : Reading) where
       (take r.queries.count r.queries.at) i
   texts_fit false i = only_fits longest_prices apart_text i (omega arith)
 
-  pair_fits : (i : ℕ) → length (text_at (pair_texts r r') i) ≤ longest_prices
-  unfolding pair_texts
-  pair_fits i =
-      let n = refusal_of r r' in
-      let rest = texts (comparable r.policy r'.policy) in
-      elim (ℕ_discrete n 0) [
-        | yes none ↦ rw (answered n (λ n. refused_text n ∷ []) rest none) (texts_fit (comparable r.policy r'.policy) i)
-        | no some ↦ rw (refused n (λ n. refused_text n ∷ []) rest some)
-            (only_fits longest_prices (refused_text n) i (omega (arith, refused_length n)))
-      ]
-
   -- a query has a place in the array of them
   texts_few : length r.queries.at ≤ 64 → (b : Bool) → length (texts b) ≤ 64
   texts_few places true =
       rw length-map (omega (arith, length-take r.queries.count r.queries.at))
   texts_few places false = omega arith
 
+  -- where nothing is refused, the first file is not
+  first_passed : refusal_of r r' ≡ 0 → r.refusal ≡ 0
+  unfolding refusal_of
+  first_passed none = elim (ℕ_discrete r.refusal 0) [
+    | yes ok ↦ ok
+    | no some ↦ absurd (some (sym (refused r.refusal (λ n. n) _ some) ∙ none))
+  ]
+
 pub reprice_fits : (s s' : List ℕ) (i : ℕ) → length (text_at (reprice_texts s s') i) ≤ longest_prices
-unfolding reprice_texts
-reprice_fits s s' = pair_fits (read_of s) (read_of s')
+unfolding reprice_texts pair_texts
+reprice_fits s s' =
+    let r = read_of s in
+    let r' = read_of s' in
+    refused_fits longest_prices (refusal_of r r') _ (omega arith) (λ none. texts_fit r r' (comparable r.policy r'.policy))
 
 pub few_texts : (s s' : List ℕ) → length (reprice_texts s s') ≤ 64
-unfolding reprice_texts pair_texts refusal_of
+unfolding reprice_texts pair_texts
 few_texts s s' =
     let r = read_of s in
     let r' = read_of s' in
-    let n = refusal_of r r' in
-    let rest = texts r r' (comparable r.policy r'.policy) in
-    elim (ℕ_discrete r.refusal 0) [
-      | yes ok ↦ elim (ℕ_discrete n 0) [
-        | yes none ↦ rw (answered n (λ n. refused_text n ∷ []) rest none)
-            (texts_few r r' (omega (arith, (states s ok).draft.clear.places)) (comparable r.policy r'.policy))
-        | no some ↦ rw (refused n (λ n. refused_text n ∷ []) rest some) (omega arith)
-      ]
-      | no not ↦
-          let first : n ≡ r.refusal = refused r.refusal (λ n. n) _ not in
-          rw (refused n (λ n. refused_text n ∷ []) rest (λ z. not (sym first ∙ z))) (omega arith)
-    ]
+    refused_few 64 (refusal_of r r') _ (omega arith) (λ none.
+    texts_few r r' (omega (arith, (states s (first_passed r r' none)).draft.clear.places)) (comparable r.policy r'.policy))

@@ -19,7 +19,6 @@ module _ (held : List ℕ) (i : ℕ) where
   -- an operation that keeps a set where the word says g
   folded_bit : (f : ℕ → ℕ → ℕ) (g : Bool → Bool) → ((a b : ℕ) → has (f a b) i ≡ (has a i && g (has b i)))
       → (word : ℕ) (ds : List ℕ) → has (folded f held word ds) i ≡ (has word i && list_all (λ d. g (bit held i d)) ds)
-  unfolding folded
   folded_bit f g e word [] = sym (and-true (has word i))
   folded_bit f g e word (d ∷ ds) = folded_bit f g e (f word (get_or held d 0)) ds
       ∙ rw (e word (get_or held d 0)) (and_assoc (has word i) (g (bit held i d)) (list_all (λ c. g (bit held i c)) ds))

@@ -1,4 +1,4 @@
--- What is put of each entry of a list, entry by entry: texts one after the other, or numbers with commas between. And how long
+-- What is put of each entry of a list, entry by entry: texts one after the other, or with commas between. And how long
 -- the line of a refusal is.
 use Rattle.std.specs.Prelude.{ℕ, zero, suc, ◌+◌, ◌≤◌, ◌<◌, ◌≡◌, refl, List, [], ◌∷◌, ◌++◌, map, length, take, get_or}
 use Rattle.std.proofs.Common.{sym, ◌∙◌, ap, append_assoc, append-nil, add-one, arith, take-suc, length-take-le}

@@ -1,4 +1,4 @@
--- `policy` meets its contract: the policy holds the rules of the decisions so far.
+-- `policy` meets its contract: after the last turn it holds the rules of all decisions.
 use Rattle.std.proofs.Common.{◌≡◌, ◌-◌, ℕ, subst, arith}
 use Rattle.threshold.specs.AtLeast.{rows, at_least}
 use Rattle.threshold.proofs.Counts.{there}
@@ -13,17 +13,17 @@ loop-j-init c = (row_starts _ c.loop-i.invariant, omega arith)
 
 pub add_rules-requires : goal.add_rules-requires
 add_rules-requires c =
-    room _ _ (there (omega arith) c.loop-j.invariant.1 (omega arith) c.wide-j-end.ensures) c.loop-j.invariant.0
+    room _ _ (there (omega arith) c.loop-j.invariant.1 (omega arith) c.decisions_about-j-end.ensures) c.loop-j.invariant.0
 
 pub loop-j-preserved : goal.loop-j-preserved
 loop-j-preserved c = (
-  turned _ _ (there (omega arith) c.loop-j.invariant.1 (omega arith) c.wide-j-end.ensures) c.loop-j.invariant.0
+  turned _ _ (there (omega arith) c.loop-j.invariant.1 (omega arith) c.decisions_about-j-end.ensures) c.loop-j.invariant.0
       c.add_rules.ensures,
   omega arith,
 )
 
 pub loop-i-preserved : goal.loop-i-preserved
-loop-i-preserved c = row_ends _ _ (omega arith) (omega (arith, c.wide-j-end.ensures)) c.loop-j.invariant.0
+loop-i-preserved c = row_ends _ _ (omega arith) (omega (arith, c.decisions_about-j-end.ensures)) c.loop-j.invariant.0
 
 pub returns : goal.returns
 unfolding at_least holding

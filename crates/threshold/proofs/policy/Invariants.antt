@@ -1,4 +1,4 @@
--- `policy` meets its contract: the policy holds the rules of the decisions so far.
+-- The loops of `policy`: the policy holds the rules of the decisions so far.
 use Rattle.std.proofs.Common.{◌≡◌, ◌≤◌, ◌-◌}
 use Rattle.threshold.specs.AtLeast.{rows}
 use Rattle.threshold.proofs.Filling.{holding, before}

@@ -5,7 +5,7 @@ use Rattle.std.proofs.Common.{inl, inr, ⊎_elim, ap, le_refl, arith, ltb→lt, 
 use Rattle.std.proofs.Math.Decide.{dec_lt, le_ind}
 use Rattle.base.specs.Laws.Tests.{is_true}
 use Rattle.policy.specs.declared.Rule.{Rule}
-use Rattle.threshold.specs.AtLeast.{There, wide, decisions_to, number, without, having, first_for, rules_for, row, rows}
+use Rattle.threshold.specs.AtLeast.{There, decisions_about, decisions_to, number, without, having, first_for, rules_for, row, rows}
 
 -- more actions, no fewer decisions
 decisions_grow : (m n : ℕ) → m ≤ n → decisions_to m ≤ decisions_to n
@@ -79,8 +79,8 @@ unfolding rows
 rows_at zero r h m = absurd (mathlib.Core.List.Memᴰ.not-nil m)
 rows_at (suc n) r h m = ⊎_elim {C = (i j : ℕ) × There i j × Memᴰ r (rules_for i j)}
     (λ (k : Memᴰ r (rows n)). rows_at n r (omega arith) k)
-    (λ (k : Memᴰ r (row (suc n) (wide (suc n)))).
-    let (j, some, few, o) = row_at (suc n) (wide (suc n)) r k in
+    (λ (k : Memᴰ r (row (suc n) (decisions_about (suc n)))).
+    let (j, some, few, o) = row_at (suc n) (decisions_about (suc n)) r k in
     (suc n, j, record { actions = h; some = some; eight = omega arith; fits = omega arith }, o))
     (mathlib.Core.List.Memᴰ.append_cases (rows n) m)
 
@@ -91,6 +91,6 @@ rows_make (suc n) i j r h there m = elim (dec_lt n i) [
   | yes l ↦
       let last : i ≡ suc n = omega arith in
       mathlib.Core.List.Memᴰ.append_right (rows n)
-      (row_make (suc n) (wide (suc n)) j r there.some (omega (arith, there.eight, there.fits)) (rw last at m))
-  | no l ↦ mathlib.Core.List.Memᴰ.append_left (row (suc n) (wide (suc n))) (rows_make n i j r (omega arith) there m)
+      (row_make (suc n) (decisions_about (suc n)) j r there.some (omega (arith, there.eight, there.fits)) (rw last at m))
+  | no l ↦ mathlib.Core.List.Memᴰ.append_left (row (suc n) (decisions_about (suc n))) (rows_make n i j r (omega arith) there m)
 ]

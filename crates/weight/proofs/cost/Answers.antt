@@ -1,5 +1,5 @@
 -- `cost` meets its contract: the weights of those of the first a actions that are in the set are summed.
-use Rattle.std.proofs.Common.{rules, arith, sym, ap, ◌∙◌, ◌+◌, cond}
+use Rattle.std.proofs.Common.{rules, arith, ap, ◌∙◌, ◌+◌, cond}
 use Rattle.mask.specs.Mask.{has}
 use Rattle.policy.specs.declared.Action.{Action}
 use Rattle.policy.specs.Record.{no_action}
@@ -12,7 +12,7 @@ pub loop-a-init : goal.loop-a-init
 loop-a-init c = summed_none (omega arith)
 
 pub with_action-sum-requires : goal.with_action-sum-requires
-with_action-sum-requires c = record { a_lt_most_actions = omega arith; bounded = c.loop-a.invariant.bounded }
+with_action-sum-requires c = record { action = omega arith; bounded = c.loop-a.invariant.bounded }
 
 pub loop-a-preserved : goal.loop-a-preserved
 loop-a-preserved c =
@@ -20,7 +20,7 @@ loop-a-preserved c =
     let here = front_entry _ p.actions p.action no_action c.loop-a.a c.actions-action-items.ensures.value (omega arith) in
     summed_next c.loop-a.invariant (omega arith)
     (c.with_action-sum.ensures.value ∙ ap (λ (a : Action). c.loop-a.sum + cond (has c.args.set c.loop-a.a) a.weight 0) here)
-    c.with_action-sum.ensures.bounded_2
+    c.with_action-sum.ensures.still_bounded
 
 pub returns : goal.returns
 unfolding cost_of

@@ -8,9 +8,9 @@ use Rattle.weight.proofs.with_action.Goals as goal
 
 pub returns-then-has : goal.returns-then-has
 returns-then-has c =
-    record { value = rw (sym c.has.ensures ∙ c.if-has.true); bounded_2 = bounded_next c.requires.bounded c.requires.a_lt_most_actions (omega arith) }
+    record { value = rw (sym c.has.ensures ∙ c.if-has.true); still_bounded = bounded_next c.requires.bounded c.requires.action (omega arith) }
 
 pub returns-else-has : goal.returns-else-has
 returns-else-has c =
-    let same = rw add-zero at (bounded_next c.requires.bounded c.requires.a_lt_most_actions zero-le) in
-    record { value = rw (sym c.has.ensures ∙ c.if-has.false) (sym (add-zero _)); bounded_2 = same }
+    let same = rw add-zero at (bounded_next c.requires.bounded c.requires.action zero-le) in
+    record { value = rw (sym c.has.ensures ∙ c.if-has.false) (sym (add-zero _)); still_bounded = same }

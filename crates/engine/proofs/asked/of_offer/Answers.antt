@@ -7,7 +7,7 @@ use Rattle.policy.specs.declared.refusal.Refusal.{Refusal}
 use Rattle.policy.specs.Questions.{first_no, questions}
 use Rattle.policy.specs.Refusal.{outcome, refusal_of}
 use Rattle.policy.specs.Laws.Refusals.{outcome_ok, outcome_refused, outcome_none}
-use Rattle.engine.specs.Calls.{offer_in_range, offer_questions}
+use Rattle.engine.specs.Calls.{offer_in_range}
 use Rattle.engine.specs.Laws.Refusals.{before7, offer_early, offer_yes, offer_no}
 use Rattle.engine.proofs.asked.of_offer.Goals as goal
 

@@ -6,4 +6,4 @@ use Rattle.probe.proofs.Lengths.{bounds}
 use Rattle.probe.proofs.written.file_length.Goals as goal
 
 pub returns : goal.returns
-returns c = bounds _ _ (replicate longest_file 0) _ _ _ c.unwrap_or.ensures (length-replicate {A = ℕ} longest_file 0) c.write.ensures.writes
+returns c = bounds _ _ (replicate longest_file 0) _ _ _ c.ok.ensures.value (length-replicate {A = ℕ} longest_file 0) c.write.ensures.writes

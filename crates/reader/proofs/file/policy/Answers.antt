@@ -1,4 +1,4 @@
--- `reader::file::policy` meets its contract.
+-- `reader::file::policy` meets its contract. Each goal has its own record of the calls so far, so each says anew what they read.
 use Rattle.std.proofs.Common.{rules, arith}
 use Rattle.format.specs.Text.{ascii}
 use Rattle.format.specs.Parser.{onward}

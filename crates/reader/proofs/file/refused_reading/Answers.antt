@@ -18,5 +18,5 @@ returns c =
         action = replicate 16 (c.zero_action.ensures i);
         rule = replicate 256 (c.zero_rule.ensures i);
       };
-      queries = record { count = 0; at = replicate 64 (record { want = 0; done = 0 }) };
+      queries = record { count = 0; at = replicate 64 (c.zero_query.ensures i) };
     }

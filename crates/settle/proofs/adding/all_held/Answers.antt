@@ -1,14 +1,7 @@
--- The word is what the decisions so far leave.
-use Rattle.std.proofs.Common.{bit_and}
+-- The entries of the list are decisions.
+use Rattle.std.proofs.iter.Serving.{serving}
 use Rattle.policy.proofs.Arrays.{entry_fits}
-use Rattle.settle.proofs.Folding.{so_none, so_next}
 use Rattle.settle.proofs.adding.all_held.Goals as goal
 
-pub loop-d-init : goal.loop-d-init
-loop-d-init c = so_none bit_and
-
-pub bounds-held-d : goal.bounds-held-d
-bounds-held-d c = entry_fits c.requires _ c.listed-d-items.ensures _ 0 c.loop-d-test.true
-
-pub loop-d-preserved : goal.loop-d-preserved
-loop-d-preserved c = so_next bit_and c.loop-d.invariant c.loop-d-test.true
+pub fold-requires-clause-callable : goal.fold-requires-clause-callable
+fold-requires-clause-callable c = grind (serving, entry_fits c.requires _ c.listed.ensures)

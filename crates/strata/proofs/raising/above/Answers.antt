@@ -1,5 +1,5 @@
 -- `above` meets its contract.
-use Rattle.std.proofs.Common.{arith, ap, ◌∙◌, get_or}
+use Rattle.std.proofs.Common.{ap, ◌∙◌}
 use Rattle.policy.proofs.Arrays.{entry_fits}
 use Rattle.strata.specs.Levels.{above}
 use Rattle.strata.proofs.Rounds.{over_none, over_more, over_all}

@@ -4,18 +4,15 @@ use mathlib.Core.Bool.{true}
 use mathlib.Core.Path.{◌≡◌, sym, ◌∙◌, ap, subst}
 use mathlib.Core.List.{List}
 use native.Mathlib.Omega.{arith}
-use lib.ListN.{replicate, get_or, length}
-use Rattle.base.specs.Laws.Tests.{passes}
+use lib.ListN.{get_or, length}
 use Rattle.policy.specs.declared.Policy.{Policy}
 use Rattle.policy.specs.declared.Rule.{Rule}
-use Rattle.policy.specs.Record.{no_rule, rule_of, rules_of, with_levels}
+use Rattle.policy.specs.Record.{no_rule, rule_of, rules_of}
 use Rattle.policy.proofs.Arrays.{front_entry}
 use Rattle.strata.specs.Levels.{asked}
 use Rattle.policy.specs.Questions.{others_in_range}
-use Rattle.policy.specs.Laws.{RuleFits, rule_wider, InRange}
-use Rattle.strata.specs.Laws.Levels.{others_range}
-use Rattle.strata.proofs.Rounds.{round_first, turn_first, turn_raised, turn_kept, fewer_rounds}
-use Rattle.strata.proofs.Rounds.{rounds_end}
+use Rattle.policy.specs.Laws.{RuleFits, rule_wider}
+use Rattle.strata.proofs.Rounds.{round_first, turn_first, turn_raised, turn_kept, fewer_rounds, rounds_end, range}
 use Rattle.strata.proofs.raising.lowest.Goals.{then-level-head, else-level-head}
 use Rattle.strata.proofs.raising.lowest.Goals as goal
 
@@ -24,10 +21,6 @@ rounds-init c = round_first _
 
 pub loop-rule-init : goal.loop-rule-init
 loop-rule-init c = turn_first _ c.rounds.invariant
-
--- question 3 is answered yes, the levels left out
-range : (p : Policy) → others_in_range p ≡ true → InRange (with_levels p (replicate 128 0))
-range p three = others_range p (passes (others_in_range p) three)
 
 -- a rule is in range
 ready : (p : Policy) → others_in_range p ≡ true → (k : ℕ) → k < p.rules → RuleFits 128 16 (rule_of p k)
@@ -44,15 +37,15 @@ read p {items} three e k less there =
 pub asked-need-requires : goal.asked-need-requires
 asked-need-requires c = record {
   each_small = c.loop-rule.invariant.now.small;
-  rule_fits = read _ c.requires.policy_value c.rules-rule-items.ensures.value _ (omega arith) c.loop-rule-test.true;
+  rule_fits = read _ c.requires.range c.rules-rule-items.ensures.value _ (omega arith) c.loop-rule-test.true;
 }
 
 pub bounds-level-head : goal.bounds-level-head
-bounds-level-head c = (read _ c.requires.policy_value c.rules-rule-items.ensures.value _ (omega arith) c.loop-rule-test.true).head
+bounds-level-head c = (read _ c.requires.range c.rules-rule-items.ensures.value _ (omega arith) c.loop-rule-test.true).head
 
 pub bounds-level-head-then-level-head : goal.bounds-level-head-then-level-head
 bounds-level-head-then-level-head c =
-    (read _ c.requires.policy_value c.rules-rule-items.ensures.value _ (omega arith) c.loop-rule-test.true).head
+    (read _ c.requires.range c.rules-rule-items.ensures.value _ (omega arith) c.loop-rule-test.true).head
 
 pub loop-rule-preserved : goal.loop-rule-preserved
 loop-rule-preserved c =
@@ -62,9 +55,9 @@ loop-rule-preserved c =
     let same = c.asked-need.ensures ∙ ap (asked c.loop-rule.level) here in
     let head = ap (λ (r : Rule). r.head) here in
     elim c.if-level-head.branch [
-      | then-level-head w ↦ rw (w.level-is, w.raised-is) (turn_raised p pre.policy_value pre.policy_value_2
+      | then-level-head w ↦ rw (w.level-is, w.raised-is) (turn_raised p pre.range pre.rise
           c.loop-rule.invariant (omega arith) head same w.if-level-head.true (omega arith))
-      | else-level-head w ↦ rw (w.level-is, w.raised-is) (turn_kept p pre.policy_value pre.policy_value_2
+      | else-level-head w ↦ rw (w.level-is, w.raised-is) (turn_kept p pre.range pre.rise
           c.loop-rule.invariant (omega arith) head same w.if-level-head.false)
     ]
 
@@ -76,4 +69,4 @@ rounds-preserved c = c.loop-rule.invariant.now
 
 pub returns : goal.returns
 returns c =
-    rounds_end _ c.requires.policy_value c.requires.policy_value_2 (omega (arith, (range _ c.requires.policy_value).rules)) c.loop-rule.invariant c.if-not-raised.true
+    rounds_end _ c.requires.range c.requires.rise (omega (arith, (range _ c.requires.range).rules)) c.loop-rule.invariant c.if-not-raised.true

@@ -9,6 +9,6 @@ whole_as_slice-text g c = omega (arith, g.met.T.Texts.small)
 pub shared_whole_as_front-write : goal.shared_whole_as_front-write
 shared_whole_as_front-write g c =
     let t = g.met.T.Texts in
-    let text = text_at (g.T.Texts.texts c.args.texts.now) c.loop-end.i in
-    let fit = t.fit c.args.texts.now c.loop-end.i in
-    (omega (arith, c.in-Some.ensures.hands.1, length-take (length c.loop-end.buffer) text, fit), omega (arith, t.small))
+    let text = text_at (g.T.Texts.texts c.args.texts.now) c.in-Some.i in
+    let fit = t.fit c.args.texts.now c.in-Some.i in
+    (omega (arith, c.in-Some-text.ensures.hands.1, length-take (length c.loop-i.buffer) text, fit), omega (arith, t.small))

@@ -2,8 +2,8 @@
 use Rattle.std.proofs.Common.{◌-◌, ◌≡◌, length}
 use Rattle.text.proofs.texts.print.Given as goal
 
-abbrev pub invariant-loop-end : goal.invariant-loop-end
-invariant-loop-end g l = length l.buffer ≡ length l.initial.buffer
+abbrev pub invariant-loop-i : goal.invariant-loop-i
+invariant-loop-i g l = length l.buffer ≡ length l.initial.buffer
 
-abbrev pub decreases-loop-end : goal.decreases-loop-end
-decreases-loop-end g l = length (g.T.Texts.texts l.texts) - l.i
+abbrev pub decreases-loop-i : goal.decreases-loop-i
+decreases-loop-i g l = length (g.T.Texts.texts l.texts) - l.i-iterator.start

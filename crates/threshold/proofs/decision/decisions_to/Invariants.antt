@@ -1,4 +1,4 @@
--- `decision::decisions_to` meets its contract: the decisions so far are counted.
+-- The loop of `decision::decisions_to`: the decisions so far are counted.
 use Rattle.std.proofs.Common.{◌≡◌}
 use Rattle.threshold.specs.AtLeast.{decisions_to}
 use Rattle.threshold.proofs.decision.decisions_to.Given as goal

@@ -31,4 +31,4 @@ loop-s-preserved c =
     ]
 
 pub returns : goal.returns
-returns c = c.unwrap_or.ensures ∙ rw (← c.sets_of-sets.ensures) (choosing_all c.loop-s.invariant c.loop-s-test.false)
+returns c = rw (← c.sets_of-sets.ensures) (choosing_all c.loop-s.invariant c.loop-s-test.false)

@@ -1,5 +1,5 @@
 -- The loop fills the places of the rules.
-use Rattle.std.proofs.Common.{ℕ, ◌≡◌, subst, arith, length, length-take}
+use Rattle.std.proofs.Common.{ℕ, ◌≡◌, subst, arith}
 use Rattle.std.proofs.lemmas.List.{length-replicate}
 use Rattle.base.specs.Laws.Tables.{Tabled}
 use Rattle.base.proofs.Tabling.{tabled_none}
@@ -17,9 +17,7 @@ returns-clause-tabled c =
       arith,
       c.loop-j-test.false,
       c.loop-j.auto.j-end,
-      c.rules.ensures.long,
-      length-take (length c.rules.result.now) self.order.rules,
-      self.planned.ordered.size,
+      c.front-order.ensures.long,
       (accepted_range _ _ self.accepted).rules,
     ) in
     subst (Tabled _ 256 _) last c.loop-j.invariant.0

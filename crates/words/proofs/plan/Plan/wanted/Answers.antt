@@ -17,8 +17,8 @@ level p q ok = (accepted_range p q ok).level _ (accepted_want p q ok)
 pub bounds-self-want : goal.bounds-self-want
 bounds-self-want c = small _ _ c.args.self.now.accepted
 
-pub worked-word-requires : goal.worked-word-requires
-worked-word-requires c = omega (arith, level _ _ c.args.self.now.accepted)
+pub worked-words-requires : goal.worked-words-requires
+worked-words-requires c = omega (arith, level _ _ c.args.self.now.accepted)
 
-pub bounds-word-want : goal.bounds-word-want
-bounds-word-want c = small _ _ c.args.self.now.accepted
+pub bounds-words-want : goal.bounds-words-want
+bounds-words-want c = small _ _ c.args.self.now.accepted
