@@ -56,7 +56,7 @@ fn marks(words: &Words, set: u16) -> [u64; WORDS]
     table
 }
 
-// The best keep-off mask of the set; 0 where there is none. The words and the set are two parameters, here and above: the words are there
+// The best keep-off mask of the set; 0 where there is none, as `keep_of` has it: for a set that is enough there is one. The words and the set are two parameters, here and above: the words are there
 // before the set is found.
 pub fn keep_off(words: &Words, set: u16) -> u16
     ensures { let plan = words.now.plan in

@@ -26,7 +26,7 @@ fn is_number(c: &[u8]) -> bool
 }
 
 // The number that contents spell. By hand, since `parse` is of a `str`, which `from_utf8` would first have to make of the bytes, with an
-// error that cannot be.
+// error that cannot occur.
 #[tactic(auto, using(crate::proofs::Numbers::spelling), unfolding(format::specs::Format::spelt))]
 pub(crate) fn number(c: &[u8]) -> Result<u32, Refusal>
     ensures { result ≡ (if is_number c.now then Ok (spelt 0 c.now) else Err Malformed) }

@@ -51,7 +51,8 @@ impl EntryText<Query> for Both<'_> {
     }
 }
 
-// The number of the first question answered no, if one is: the files', and those of the second's policy with the first's queries.
+// The number of the first question answered no, if one is: the files', and those of the second's policy with the first's queries. It is
+// a number, as a `Reading` has one.
 fn refusal(first: &Reading, second: &Reading) -> Option<u8>
     ensures { result ≡ refused_or (refusal_of first.now second.now) Some None }
 {

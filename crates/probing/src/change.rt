@@ -60,7 +60,7 @@ impl Change {
         }
     }
 
-    // The policy with the change.
+    // The policy with the change. `LastLevel` is put whatever the count, since `has_room` has asked it.
     fn made(self, policy: &Policy) -> Policy
         ensures { result ≡ changed policy.now self }
     {

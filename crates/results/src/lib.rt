@@ -15,7 +15,8 @@ use text::{Bytes, EntryText, Pen, Refused, Text, Texts};
 // No query's text is longer.
 pub const LONGEST_RESULT: usize = 80000;
 
-// What the calls return for the best set of a query: the choice, how many sets are listed, and the rules fired.
+// What the calls return for the best set of a query: the choice, how many sets are listed, and the rules fired. The sets themselves stay
+// in the lent array, as List hands back their number alone.
 #[derive(Clone, Copy)]
 struct Best {
     choice: Choice,
@@ -36,8 +37,7 @@ fn answer(
     query: &Query,
     places: &mut [u16; MOST_SLIM],
 ) -> Result<Option<Best>, Refusal>
-    ensures answered { Answered policy.now query.now result places.old places.new }
-    ensures places_len_unchanged { length places.new ≡ length places.old }
+    ensures { Answered policy.now query.now result places.old places.new }
 {
     let Some(choice) = engine::choose(*policy, *query)? else {
         return Ok(None);
@@ -51,8 +51,7 @@ fn answer(
 
 // Works a query, and writes its slim sets into the lent list.
 fn work(policy: &Policy, query: &Query, places: &mut [u16; MOST_SLIM]) -> QueryResult
-    ensures worked { Worked policy.now query.now result places.old places.new }
-    ensures places_len_unchanged { length places.new ≡ length places.old }
+    ensures { Worked policy.now query.now result places.old places.new }
 {
     QueryResult {
         want: query.want,

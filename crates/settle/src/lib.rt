@@ -17,8 +17,9 @@ mod adding;
 // The words once each of the first `count` levels is settled, from 0 up. A level is settled by passes over its rules. More are due
 // where a rule adds to a decision that a rule asks for at its own place or before it: first one back, from the last rule to the
 // first, since what runs against the order in a circle of rules runs with it then. The loops go by the place: the first compares it
-// with `uses`. A zip of slices was tried for the pass back: a slice must end no earlier than it starts, which `Ordered` does not say,
-// and with it would ask more of callers.
+// with `uses`. A zip of slices was tried for the pass back: a slice must end no earlier than it starts, which `Ordered` does not say;
+// if it did, `levels` would ask more of its callers. The outer loop goes by l, since a level's rules stand between two entries of `start`.
+// `enabled` stands beside the order, place by place: the order is found once for a query, and `enabled` anew for each word.
 pub fn levels(
     ranged: &Ranged<'_>,
     order: &Order,

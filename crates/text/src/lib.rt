@@ -70,7 +70,7 @@ impl Text for Bytes<'_> {
     }
 }
 
-// A refusal, by the line of its number.
+// A refusal, by the line of its number, which is what a reading and a levelling hand back.
 #[derive(Clone, Copy)]
 pub struct Refused(pub u8);
 

@@ -22,15 +22,15 @@ module _ (p : Policy) (q : Query) where
     best = λ x h. let same : b ≡ x = cc in subst (λ y. ForBest p q y before after) same f;
   }
 
-pub returns-in_err-choice-clause-answered : goal.returns-in_err-choice-clause-answered
-returns-in_err-choice-clause-answered c =
+pub returns-in_err-choice : goal.returns-in_err-choice
+returns-in_err-choice c =
     let is : ◌≡◌ {A = Result (Option Best) Refusal} c.from_residual.result (Err c.in_err-choice.field-0.0) = search rules in
     rw is (refused _ _ _ _ (sym c.in_err-choice.was ∙ c.choose.ensures.value))
 
-pub returns-in_default-clause-answered : goal.returns-in_default-clause-answered
-returns-in_default-clause-answered c = nothing _ _ _ (rw c.in_default.is at (sym c.in_ok-choice.was ∙ c.choose.ensures.value))
+pub returns-in_default : goal.returns-in_default
+returns-in_default c = nothing _ _ _ (rw c.in_default.is at (sym c.in_ok-choice.was ∙ c.choose.ensures.value))
 
-pub returns-clause-answered : goal.returns-clause-answered
-returns-clause-answered c =
+pub returns : goal.returns
+returns c =
     named _ _ _ _ _ (rw c.in-Some.is at (sym c.in_ok-choice.was ∙ c.choose.ensures.value))
     (record { listing = c.list.ensures.value; listed = c.list.ensures.places_after; firing = c.fire.ensures.value })

@@ -15,5 +15,5 @@ pub returns : goal.returns
 returns c =
     let pen = c.args.pen.now in
     let same = same_result c.args.self.now.0.now c.args.query.now c.work-result.result (replicate most_slim 0) _ long
-    c.work-result.ensures.worked in
+    c.work-result.ensures in
     c.put_answer.ensures ∙ ap (with_text _) c.line.ensures ∙ sym (with_both _ _ pen) ∙ ap (λ t. with_text t pen) same
