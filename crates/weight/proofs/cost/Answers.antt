@@ -11,9 +11,6 @@ use Rattle.weight.proofs.cost.Goals as goal
 pub loop-a-init : goal.loop-a-init
 loop-a-init c = summed_none (omega arith)
 
-pub with_action-sum-requires : goal.with_action-sum-requires
-with_action-sum-requires c = record { action = omega arith; bounded = c.loop-a.invariant.bounded }
-
 pub loop-a-preserved : goal.loop-a-preserved
 loop-a-preserved c =
     let p = c.args.policy.now in

@@ -57,9 +57,6 @@ returns-then-buffer-end c =
     (ap outcome (sym (no_room c.args.policy c.args.queries _ all
     (rw (← is_length c.args.policy c.args.queries ok c.start-end.ensures) c.if-buffer-end.true))))
 
-pub slice_bounds-whole-end : goal.slice_bounds-whole-end
-slice_bounds-whole-end c = within c.start-end.ensures
-
 pub returns : goal.returns
 returns c =
     let all = yes c.args.policy c.args.queries (sym c.in_ok-check_record.was ∙ c.check_record.ensures.value) in

@@ -19,6 +19,3 @@ returns c = picking_all c.loop-b.invariant (omega (arith, c.loop-b-test.false))
 
 pub loop-b-init : goal.loop-b-init
 loop-b-init c = picking_none refl
-
-pub bounds-world-z : goal.bounds-world-z
-bounds-world-z c = omega arith

@@ -1,10 +1,7 @@
 -- `reader::entries::fill` meets its contract.
-use Rattle.std.proofs.Common.{arith, refl}
-use Rattle.reader.proofs.Filling.{begins, turns, stops, ends}
+use Rattle.std.proofs.Common.{arith}
+use Rattle.reader.proofs.Filling.{turns, stops, ends}
 use Rattle.reader.proofs.entries.fill.Goals as goal
-
-pub loop-place-init : goal.loop-place-init
-loop-place-init g c = λ m k. begins m _ _ _ refl
 
 pub returns-in_err-place : goal.returns-in_err-place
 returns-in_err-place g c = λ m k. stops m _ _ (c.loop-place.invariant m k) (omega arith) _ (k _ _ _ c.entry.ensures) _ _ _ c.in_err-place.was c.from_residual.ensures.1

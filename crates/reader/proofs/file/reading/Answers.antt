@@ -7,12 +7,6 @@ use Rattle.reader.specs.File.{lines, reading_of}
 use Rattle.reader.proofs.Filling.{as_many}
 use Rattle.reader.proofs.file.reading.Goals as goal
 
-pub returns-in_err-at : goal.returns-in_err-at
-unfolding lines outcome_by onward
-returns-in_err-at c =
-    let queries = c.times.ensures (query c.in_ok-number.field-0 c.in_ok-number-2.field-0) (λ x r y k. search rules) in
-    grind arith
-
 pub returns : goal.returns
 unfolding lines outcome_by onward reading_of
 returns c =

@@ -1,8 +1,6 @@
 -- `above` meets its contract.
-use Rattle.std.proofs.Common.{ap, ◌∙◌}
 use Rattle.policy.proofs.Arrays.{entry_fits}
-use Rattle.strata.specs.Levels.{above}
-use Rattle.strata.proofs.Rounds.{over_none, over_more, over_all}
+use Rattle.strata.proofs.Rounds.{over_none, over_more}
 use Rattle.strata.proofs.raising.above.Goals as goal
 
 pub loop-d-init : goal.loop-d-init
@@ -13,6 +11,3 @@ bounds-level-d c = entry_fits c.requires.list_fits _ c.listed-d-items.ensures c.
 
 pub loop-d-preserved : goal.loop-d-preserved
 loop-d-preserved c = rw c.max-lowest.ensures (over_more c.loop-d.invariant c.loop-d-test.true)
-
-pub returns : goal.returns
-returns c = over_all c.loop-d.invariant c.loop-d-test.false ∙ ap (above c.args.level.now c.args.step c.args.own) c.listed-d-items.ensures

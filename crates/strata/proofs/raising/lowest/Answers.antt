@@ -12,15 +12,12 @@ use Rattle.policy.proofs.Arrays.{front_entry}
 use Rattle.strata.specs.Levels.{asked}
 use Rattle.policy.specs.Questions.{others_in_range}
 use Rattle.policy.specs.Laws.{RuleFits, rule_wider}
-use Rattle.strata.proofs.Rounds.{round_first, turn_first, turn_raised, turn_kept, fewer_rounds, rounds_end, range}
+use Rattle.strata.proofs.Rounds.{round_first, turn_raised, turn_kept, fewer_rounds, rounds_end, range}
 use Rattle.strata.proofs.raising.lowest.Goals.{then-level-head, else-level-head}
 use Rattle.strata.proofs.raising.lowest.Goals as goal
 
 pub rounds-init : goal.rounds-init
 rounds-init c = round_first _
-
-pub loop-rule-init : goal.loop-rule-init
-loop-rule-init c = turn_first _ c.rounds.invariant
 
 -- a rule is in range
 ready : (p : Policy) → others_in_range p ≡ true → (k : ℕ) → k < p.rules → RuleFits 128 16 (rule_of p k)
@@ -63,9 +60,6 @@ loop-rule-preserved c =
 
 pub rounds-smaller : goal.rounds-smaller
 rounds-smaller c = fewer_rounds _ c.loop-rule.invariant c.if-not-raised.false
-
-pub rounds-preserved : goal.rounds-preserved
-rounds-preserved c = c.loop-rule.invariant.now
 
 pub returns : goal.returns
 returns c =

@@ -2,7 +2,7 @@
 use Rattle.std.proofs.Common.{◌+◌, ◌≤◌, ◌^◌, sym, ◌∙◌, arith}
 use lib.Count.{count_trailing_zeros, trailing_le}
 use Rattle.mask.proofs.Bits.{worth}
-use Rattle.keep.proofs.Choosing.{choosing_none, choosing_skip, choosing_new, choosing_leap, choosing_first, choosing_all, no_fewer_more}
+use Rattle.keep.proofs.Choosing.{choosing_none, choosing_skip, choosing_new, choosing_leap, choosing_first, no_fewer_more}
 use Rattle.keep.proofs.Leaps.{leap_least, leap_set}
 use Rattle.keep.proofs.search.Search.fewest.Goals.{then-unmarked, else-unmarked}
 use Rattle.keep.proofs.search.Search.fewest.Goals as goal
@@ -29,6 +29,3 @@ loop-s-preserved c =
       | else-unmarked w ↦ rw w.best-is
           (choosing_skip c.loop-s.invariant c.loop-s-test.true (sym c.unmarked.ensures ∙ w.if-unmarked.false))
     ]
-
-pub returns : goal.returns
-returns c = rw (← c.sets_of-sets.ensures) (choosing_all c.loop-s.invariant c.loop-s-test.false)
