@@ -1,7 +1,7 @@
 // Reading a file line by line.
 #![tactic(auto, using(crate::proofs::Bytes::line_parts), unfolding(crate::specs::Outcomes::outcome_by, crate::specs::Outcomes::list_in, format::specs::Parser::ask, format::specs::Parser::onward, format::specs::Parser::end, format::specs::Format::line, format::specs::Format::number_line, format::specs::Format::kind_line, format::specs::Format::list_line))]
 
-ghost use Rattle.std.specs.Prelude.{◌≡◌, ◌≤◌, ◌==◌, IfOk};
+ghost use Rattle.std.specs.Prelude.{◌≡◌, ◌≤◌, ◌==◌, IfErr, IfOk};
 ghost use Rattle.std.specs.List.{position};
 ghost use Rattle.format.specs.Parser.{exactly, rest_of_line, end};
 ghost use Rattle.format.specs.Format.{line, number_line, kind_line, list_line};
@@ -12,7 +12,7 @@ use std::marker::Model;
 
 mod contents;
 
-// The bytes of a file that are left to read.
+// The bytes of a file that are left to read. A line that is refused stays left.
 #[derive(Drop)]
 pub struct Lines<'a> {
     rest: &'a [u8],
@@ -68,8 +68,8 @@ impl<'a> Lines<'a> {
         self.rest_of_line()
     }
 
-    // A number from lo to hi.
-    pub fn number(&mut self, key: &[u8], lo: u16, hi: u16) -> Result<u16, Refusal>
+    // A number from lo to hi, where its line is passed in any case.
+    fn number_passed(&mut self, key: &[u8], lo: u16, hi: u16) -> Result<u16, Refusal>
         ensures read { outcome result self.new ≡ number_line key.now lo hi self.old }
         ensures in_range { IfOk result (λ v. (lo ≤ v) × (v ≤ hi)) }
     {
@@ -80,15 +80,35 @@ impl<'a> Lines<'a> {
         Ok(number as u16)
     }
 
-    // A kind, p or o.
-    pub fn kind(&mut self) -> Result<Kind, Refusal>
-        ensures { outcome result self.new ≡ kind_line self.old }
+    // A number from lo to hi.
+    pub fn number(&mut self, key: &[u8], lo: u16, hi: u16) -> Result<u16, Refusal>
+        ensures read { outcome result self.new ≡ number_line key.now lo hi self.old }
+        ensures kept { IfErr result (λ e. self.new ≡ self.old) }
+        ensures in_range { IfOk result (λ v. (lo ≤ v) × (v ≤ hi)) }
     {
-        contents::kind(self.line(b"kind")?)
+        let before = self.rest;
+        let number = self.number_passed(key, lo, hi);
+        if number.is_err() {
+            self.rest = before;
+        }
+        number
     }
 
-    // A list of rising decisions below n.
-    pub fn decisions(&mut self, key: &[u8], n: u8) -> Result<Decisions, Refusal>
+    // A kind, p or o.
+    pub fn kind(&mut self) -> Result<Kind, Refusal>
+        ensures read { outcome result self.new ≡ kind_line self.old }
+        ensures kept { IfErr result (λ e. self.new ≡ self.old) }
+    {
+        let before = self.rest;
+        let kind = self.line(b"kind").and_then(contents::kind);
+        if kind.is_err() {
+            self.rest = before;
+        }
+        kind
+    }
+
+    // A list of rising decisions below n, where its line is passed in any case.
+    fn decisions_passed(&mut self, key: &[u8], n: u8) -> Result<Decisions, Refusal>
         ensures { outcome result self.new ≡ list_line key.now n self.old }
     {
         let list = contents::list(self.line(key)?, n)?;
@@ -97,6 +117,19 @@ impl<'a> Lines<'a> {
         } else {
             Err(Refusal::NotRising)
         }
+    }
+
+    // A list of rising decisions below n.
+    pub fn decisions(&mut self, key: &[u8], n: u8) -> Result<Decisions, Refusal>
+        ensures read { outcome result self.new ≡ list_line key.now n self.old }
+        ensures kept { IfErr result (λ e. self.new ≡ self.old) }
+    {
+        let before = self.rest;
+        let list = self.decisions_passed(key, n);
+        if list.is_err() {
+            self.rest = before;
+        }
+        list
     }
 
     // Nothing is left.

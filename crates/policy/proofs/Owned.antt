@@ -1,19 +1,22 @@
--- What owning a policy or its queries tells of them: arrays are as long as the structs declare.
+-- What owning a policy or its queries tells of them: arrays are as long as the structs declare, and weights have 16 bits.
 use Prim.Native.Nat.{ℕ, zero, suc, ◌≤◌, ◌<◌}
 use mathlib.Core.List.{List, [], ◌∷◌, map, map-id}
 use mathlib.Core.Path.{◌≡◌}
 use native.Mathlib.Omega.{arith}
 use borrow.Author.Rules.{rules}
 use base.Fml.{Fml}
-use denote.Array.{each}
+use denote.Array.{Array, each}
+use denote.Laws.{Is}
 use denote.Shadow.{shadow}
 use lib.ListN.{length, get_or}
 use mir.Val.{Val}
 use Rattle.policy.specs.declared.Policy.{Policy}
 use Rattle.policy.specs.declared.Rule.{Rule}
+use Rattle.policy.specs.declared.Action.{Action}
 use Rattle.policy.specs.declared.Queries.{Queries}
-use Rattle.policy.specs.Record.{no_rule, Eights, Sized}
+use Rattle.policy.specs.Record.{no_rule, no_action, Eights, Sized}
 use Rattle.policy.specs.contracts.Policy as policy
+use Rattle.policy.specs.contracts.Action as action
 use Rattle.policy.specs.contracts.Rule as rule
 use Rattle.policy.specs.contracts.Queries as queries
 
@@ -29,6 +32,18 @@ module _ {X : Type 0} (D : Type 0) (own : D → List Val → Fml) (into : X → 
 -- a rule's arrays
 rule_owned : (r : Rule) (vs : List Val) → shadow ((rule.the_row).own_val r vs) → Eights r
 rule_owned r vs own = (search rules, search rules)
+
+-- a weight has 16 bits
+weight_owned : (a : Action) (vs : List Val) → shadow ((action.the_row).own_val a vs) → a.weight ≤ 65535
+weight_owned a vs own = let fits : a.weight < 65536 = search rules in omega arith
+
+-- and so has each weight of an array of 16 actions
+pub weights_owned : (l : List Action) (vs : List Val) → Is (Array action.the_row 16) l vs
+    → (k : ℕ) → k < 16 → (get_or l k no_action).weight ≤ 65535
+weights_owned l vs own k less =
+    let all : shadow (each Action (action.the_row).own_val (map (λ a. a) l) own.0) = rw (map-id l) own.1.1 in
+    each_owned Action (action.the_row).own_val (λ a. a) (λ a. a.weight ≤ 65535) no_action weight_owned l own.0 all k
+    (omega (arith, own.1.0.1))
 
 -- the lengths of all arrays of a policy that has at most 256 rules
 pub policy_owned : (p : Policy) (vs : List Val) → shadow ((policy.the_row).own_val p vs) → p.rules ≤ 256 → Sized p

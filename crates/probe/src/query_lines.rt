@@ -72,6 +72,7 @@ fn choose(asked: &Asked) -> Option<u32> {
 
 // Writes the lines of a query of a policy with many actions: the best set, the lists with a place for every slim set and with
 // one place fewer, some words, and the digest of all.
+#[inline(never)]
 pub(crate) fn of_many(asked: &Asked) {
     named(asked.query);
     let slim = (choose(asked).unwrap_or(0) as usize).min(MOST_SLIM);
@@ -86,6 +87,7 @@ pub(crate) fn of_many(asked: &Asked) {
 }
 
 // Writes the lines of a query.
+#[inline(never)]
 pub(crate) fn of(asked: &Asked) {
     let Asked { policy, query } = *asked;
     named(query);

@@ -58,6 +58,7 @@ fn spoilt_policy(name: &[u8], file: &File, query: Query) {
 }
 
 // Writes the lines of each spoilt policy, where there is a query to put to it.
+#[inline(never)]
 pub(crate) fn lines(file: &File) {
     let Some(first) = file.queries.asked().first() else {
         return;

@@ -35,6 +35,7 @@ fn unused_queries(queries: &Queries) -> Queries {
 }
 
 // Writes the lines with a count out of range, the last query out of range, and unused entries changed.
+#[inline(never)]
 pub(crate) fn lines(file: &File) {
     let File { policy, queries } = *file;
     let Some(last) = queries.asked().last() else {

@@ -56,6 +56,7 @@ fn lent(file: &File, buffer: &mut [u8]) {
 }
 
 // Writes the lines of buffers of these lengths.
+#[inline(never)]
 pub(crate) fn lines(file: &File) {
     for length in lengths(file) {
         lent(file, &mut stars()[..length]);

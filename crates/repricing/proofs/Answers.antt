@@ -1,8 +1,6 @@
 -- What the calls answer, where they are refused and where they are not.
 use Rattle.std.specs.Prelude.{true, false, ◌≡◌, replicate, Some, None, Ok, Err}
-use Rattle.std.specs.Option.{option_map, option_flatten}
-use Rattle.std.specs.Result.{result_ok}
-use Rattle.std.proofs.Common.{refl, sym, ap, ◌∙◌, subst}
+use Rattle.std.proofs.Common.{sym, ap, ◌∙◌, subst}
 use Rattle.std.proofs.Math.Bool.{and-true}
 use Rattle.policy.specs.declared.Policy.{Policy}
 use Rattle.policy.specs.declared.Query.{Query}
@@ -10,12 +8,11 @@ use Rattle.policy.specs.declared.refusal.Refusal.{Refusal}
 use Rattle.policy.specs.Questions.{first_no, questions, query_in_range, queries_in_range, query_questions, check_record_of}
 use Rattle.policy.specs.Refusal.{outcome}
 use Rattle.policy.specs.Laws.Refusals.{outcome_ok, outcome_refuses}
-use Rattle.engine.specs.declared.Choice.{Choice}
 use Rattle.engine.specs.Calls.{Answer, choose_of}
 use Rattle.engine.specs.Laws.Refusals.{answered}
 use Rattle.alike.specs.Comparable.{comparable}
 use Rattle.repricing.specs.declared.Prices.{Prices}
-use Rattle.repricing.specs.Call.{Price, Repriced, Pays, Reports, price_in, price_of, prices, reprice_of}
+use Rattle.repricing.specs.Call.{Repriced, Pays, Reports, price_in, price_of, prices, reprice_of}
 use Rattle.repricing.specs.Laws.Means.{price_means, reprice_means}
 
 -- the questions of a record with one query are those of the policy with it
@@ -23,20 +20,11 @@ pub one_query : (p : Policy) (q : Query) → check_record_of p (record { count =
 unfolding check_record_of queries_in_range
 one_query p q = ap (λ b. first_no (questions p b)) (and-true (query_in_range p q))
 
--- the cost in what Choose answers
-cost_in : (a : Answer) → option_map (λ (c : Choice). c.cost) (option_flatten (result_ok a)) ≡ price_in a
-unfolding price_in
-cost_in (Err e) = refl
-cost_in (Ok None) = refl
-cost_in (Ok (Some c)) = refl
-
-pub priced : (p : Policy) (q : Query) {a : Answer} {price : Price} → a ≡ choose_of p q
-    → price ≡ option_map (λ (c : Choice). c.cost) (option_flatten (result_ok a))
-    → record { value : price ≡ price_of p q; pays : Pays p q price }
+-- the cost in what Choose answers is what the call promises
+pub priced : (p : Policy) (q : Query) {a : Answer} → a ≡ choose_of p q
+    → record { value : price_in a ≡ price_of p q; pays : Pays p q (price_in a) }
 unfolding price_of
-priced p q {a} e is =
-    let same = is ∙ cost_in a ∙ ap price_in e in
-    record { value = same; pays = subst (Pays p q) (sym same) (price_means p q) }
+priced p q e = let same = ap price_in e in record { value = same; pays = subst (Pays p q) (sym same) (price_means p q) }
 
 module _ (p p' : Policy) (q : Query) where
   -- what the contract of Reprice says of its answer

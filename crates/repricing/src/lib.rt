@@ -20,10 +20,11 @@ pub fn least_cost(policy: Policy, query: Query) -> Option<u32>
     ensures value { result ≡ price_of policy query }
     ensures pays { Pays policy query result }
 {
-    engine::choose(policy, query)
-        .ok()
-        .flatten()
-        .map(|choice| choice.cost)
+    match engine::choose(policy, query) {
+        Err(_) => None,
+        Ok(None) => None,
+        Ok(Some(choice)) => Some(choice.cost),
+    }
 }
 
 // Puts questions 3 to 6 to the policy with the query.

@@ -2,10 +2,10 @@
 // these functions require.
 #![tactic(auto)]
 
-ghost use Rattle.std.specs.Prelude.{◌≡◌, ◌+◌, All, ◌<◌, not, length, replicate, slice_set};
+ghost use Rattle.std.specs.Prelude.{◌≡◌, ◌+◌, ◌&&◌, All, ◌<◌, not, length, replicate, slice_set};
 ghost use Rattle.std.specs.List.{list_all};
 ghost use Rattle.base.specs.Lists.{filled};
-ghost use Rattle.policy.specs.Record.{most_decisions, most_actions};
+ghost use Rattle.policy.specs.Record.{most_decisions, most_actions, listed};
 ghost use Rattle.policy.specs.Questions.{Accepted};
 ghost use Rattle.policy.specs.Laws.{RuleFits, InRange};
 ghost use Rattle.model.specs.Clears.{fired_for};
@@ -57,19 +57,25 @@ fn none_held(held: &[bool; MOST_DECISIONS], decisions: &[u8]) -> bool
     decisions.iter().all(|d| !held[*d as usize])
 }
 
-// Whether the rule can fire: its head is not held yet, and the world and the marks are as it asks. A call of its own, since the scan asks
-// it of few rules and its loop is then shorter. The rule is required to fit: a type for one that does would be a second one beside
-// document 01's.
+// Whether the marks are as the rule's lists ask. A call of its own, so that the scan's loop is shorter. The rule is required to fit: a type
+// for one that does would be a second one beside document 01's.
 #[inline(never)]
+fn lists_met(rule: &Rule, held: &[bool; MOST_DECISIONS]) -> bool
+    requires { RuleFits most_decisions most_actions rule.now }
+    ensures { result ≡ (list_all (λ d. is_held held.now d) (listed rule.now.ifs)
+        && list_all (λ d. not (is_held held.now d)) (listed rule.now.unless)) }
+{
+    all_held(held, rule.ifs.listed()) && none_held(held, rule.unless.listed())
+}
+
+// Whether the rule can fire: its head is not held yet, and the world and the marks are as it asks. The scan asks this of most rules again
+// and again, so what fails first is no call.
 #[tactic(auto, unfolding(model::specs::Fire::can_fire))]
 fn can_fire(rule: &Rule, held: &[bool; MOST_DECISIONS], world: u16) -> bool
     requires { RuleFits most_decisions most_actions rule.now }
     ensures { result ≡ can_fire held.now world rule.now }
 {
-    !held[rule.head as usize]
-        && mask::contains(world, rule.needs)
-        && all_held(held, rule.ifs.listed())
-        && none_held(held, rule.unless.listed())
+    !held[rule.head as usize] && mask::contains(world, rule.needs) && lists_met(rule, held)
 }
 
 // The rules that fire until `want` is held, level by level, in passes over the rules; none where it is never held.

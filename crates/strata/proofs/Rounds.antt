@@ -2,7 +2,7 @@
 use Prim.Native.Nat.{ℕ, ◌+◌, ◌-◌, ◌≤◌, ◌<◌, max, zero-le}
 use mathlib.Core.Bool.{Bool, true, false}
 use mathlib.Core.List.{List}
-use mathlib.Core.Path.{◌≡◌, refl, sym, ◌∙◌, ap}
+use mathlib.Core.Path.{◌≡◌, refl, sym, ◌∙◌, ap, subst}
 use mathlib.Core.Logic.{◌⊎◌, inl, inr}
 use native.Mathlib.Decide.{dec_lt}
 use native.Mathlib.Numerals.{add-one}
@@ -116,12 +116,17 @@ module _ (p : Policy) where
       omega (arith, higher, total_small level so.now.small, so.now.reached.long)
 
 -- a rule that the loop reads asks for 15 at most, or the policy is refused
-pub asks_or_refused : (p : Policy) (items : List Rule) (k : ℕ) (level : List ℕ) → items ≡ rules_of p → k < length items → length items ≤ p.rules
+pub asks_or_refused : (p : Policy) (k : ℕ) (level : List ℕ) → k < p.rules → AtRound p level → others_in_range p ≡ true → lists_rise p ≡ true
+    → (asked level (rule_of p k) ≤ 15) ⊎ (found_levels p ≡ refused_levels 9)
+asks_or_refused p k level h at three four = elim (dec_lt 15 (asked level (rule_of p k))) [
+  | yes high ↦ inr (sym (too_high p three four k level h at.reached high))
+  | no low ↦ inl (omega arith)
+]
+
+-- the same of an entry of the list of the rules
+pub entry_asks : (p : Policy) (items : List Rule) (k : ℕ) (level : List ℕ) → items ≡ rules_of p → k < length items → length items ≤ p.rules
     → AtRound p level → others_in_range p ≡ true → lists_rise p ≡ true
     → (asked level (get_or items k no_rule) ≤ 15) ⊎ (found_levels p ≡ refused_levels 9)
-asks_or_refused p items k level e h few at three four =
-    let here = ap (asked level) (front_entry items p.rules p.rule no_rule k e h) in
-    elim (dec_lt 15 (asked level (get_or items k no_rule))) [
-      | yes high ↦ inr (sym (too_high p three four k level (omega arith) at.reached (rw (← here) high)))
-      | no low ↦ inl (omega arith)
-    ]
+entry_asks p items k level e h few at three four =
+    subst (λ (r : Rule). (asked level r ≤ 15) ⊎ (found_levels p ≡ refused_levels 9)) (sym (front_entry items p.rules p.rule no_rule k e h))
+    (asks_or_refused p k level (omega arith) at three four)

@@ -36,7 +36,7 @@ fn asked(level: &[u8; MOST_DECISIONS], rule: &Rule) -> u8
 // The lowest levels, or refusal 9 where none from 0 to 15 fit. Each rule in turn raises the level of its head as far as it
 // asks, round after round, until a round raises none. Each round but the last raises one of 128 levels, and none is raised
 // past 15: so there are at most 1,921 rounds of at most 256 rules.
-#[tactic(auto, using(crate::proofs::Rounds::asks_or_refused))]
+#[tactic(auto, using(crate::proofs::Rounds::entry_asks))]
 pub(crate) fn lowest(policy: &Policy) -> Result<[u8; MOST_DECISIONS], Refusal>
     requires range { others_in_range policy.now ≡ true }
     requires rise { lists_rise policy.now ≡ true }

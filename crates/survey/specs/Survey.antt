@@ -1,7 +1,7 @@
 -- What a survey goes over, and what it has found so far.
-use Rattle.std.specs.Prelude.{ℕ, suc, ◌+◌, ◌^◌, Bool, cond, ◌&&◌, Option, None, Some, ltb, length}
+use Rattle.std.specs.Prelude.{ℕ, suc, ◌+◌, ◌^◌, ◌<◌, Bool, cond, ◌&&◌, ◌⊎◌, ◌≡◌, Option, None, Some, ltb, length}
 use Rattle.std.proofs.Math.Option.{Option as Best, none, some}
-use Rattle.mask.specs.Family.{among, minimal, lightest}
+use Rattle.mask.specs.Family.{Before, among, minimal, lightest}
 use Rattle.policy.specs.declared.Policy.{Policy}
 use Rattle.policy.specs.declared.Query.{Query}
 use Rattle.model.specs.Clears.{clears}
@@ -22,13 +22,24 @@ abbrev pub slims : Option Found → ℕ
 slims None = 0
 slims (Some found) = found.slim
 
--- what is found with one slim set more, the set s, which costs c and has a higher number: of the set named before and s, the one
--- that comes before the other in the order of sets
+-- the set that is named, and its cost
+abbrev pub Names : Found → ℕ → ℕ → Type 0
+Names r s c = (r.mask ≡ s) × (r.cost ≡ c)
+
+-- r stands for one slim set more than `found` does: the set s, which costs c and has a higher number. The first is named; after
+-- that, of the one named before and s, the one that comes before the other in the order of sets.
+pub record OneMore (found : Option Found) (r : Found) (s c : ℕ) : Type 0 where
+  pub slim : r.slim ≡ slims found + 1
+  pub first : found ≡ None → Names r s c
+  pub before : (cost : ℕ → ℕ) (b : Found) → found ≡ Some b → b.mask < s → cost b.mask ≡ b.cost → cost s ≡ c
+      → (Names r b.mask b.cost × Before cost b.mask s) ⊎ (Names r s c × Before cost s b.mask)
+
+-- how it is computed: the set s takes the place of the one named before where it costs less
 abbrev pub with_one : Found → ℕ → ℕ → Found
 with_one found s c =
     record { mask = cond (ltb c found.cost) s found.mask; cost = cond (ltb c found.cost) c found.cost; slim = found.slim + 1 }
 
--- and the first is named
+-- and the first takes no one's place
 abbrev pub one_more : Option Found → ℕ → ℕ → Found
 one_more None s c = record { mask = s; cost = c; slim = 1 }
 one_more (Some found) s c = with_one found s c

@@ -3,7 +3,9 @@ use Rattle.std.proofs.Common.{ℕ, ◌+◌, ◌-◌, ◌≤◌, min, ◌≡◌, 
 use Rattle.std.proofs.Math.Seq.{take-take, take-length}
 use Rattle.std.proofs.lemmas.Slice.{put_mid-paste}
 use borrow.Rule.Slice.PartMut.{put_mid}
-use Rattle.text.specs.Put.{fitting, Puts}
+use Rattle.text.specs.declared.Pen.{Pen}
+use Rattle.text.specs.Put.{fitting, Puts, with_text}
+use Rattle.text.specs.Laws.Pens.{is_with}
 
 -- into the places behind `at`
 pub copied : (before text part : List ℕ) (at n : ℕ) → n ≡ min (length text) (length before - at) → part ≡ take n text
@@ -27,3 +29,8 @@ unfolding fitting
 full before text at h =
     let none : length before - at ≡ 0 = omega arith in
     record { ends = rw none (omega arith); holds = rw none (rw append-nil (sym (take-append-drop at before))) }
+
+-- so a pen that has copied it has put it
+pub put_copied : (text : List ℕ) (pen : Pen) (part : List ℕ) (n : ℕ) → n ≡ min (length text) (length pen.buffer.now - pen.at) → part ≡ take n text
+    → record pen { buffer = record pen.buffer { now = put_mid pen.at (pen.at + n - pen.at) pen.buffer.now part }; at = pen.at + n } ≡ with_text text pen
+put_copied text pen part n most e = is_with text pen _ _ (copied pen.buffer.now text part pen.at n most e)

@@ -102,6 +102,7 @@ impl<'a> Pen<'a> {
     }
 
     // Puts a text.
+    #[tactic(auto, using(crate::proofs::Copied::put_copied))]
     pub fn put(&mut self, text: &[u8])
         ensures { self.new ≡ with_text text.now self.old }
     {

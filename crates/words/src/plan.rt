@@ -14,7 +14,7 @@ use order::{Order, Ranged};
 use policy::{LEVELS, MOST_DECISIONS, MOST_RULES, Policy, Query};
 
 // An accepted policy and query, what actions lead to, and an order of the rules.
-#[derive(Drop)]
+#[derive(Clone, Copy)]
 pub struct Plan {
     pub policy: Policy,
     pub query: Query,

@@ -41,7 +41,7 @@ pub loop-i-preserved : goal.loop-i-preserved
 loop-i-preserved c =
     let one = taken (goal.at.loop-i-preserved c).In-Some in
     let bit = sym (c.requires.marks.bits c.in-Some.i one.below) ∙ one.taken in
-    go_on one (rw (c.one_more.ensures, c.cost.ensures) (weighed_at (weighed_more one.so bit) (omega arith)))
+    go_on one (rw (c.one_more.ensures.value, c.cost.ensures) (weighed_at (weighed_more one.so bit) (omega arith)))
 
 pub returns : goal.returns
 returns c =
