@@ -2,11 +2,13 @@
 use Rattle.std.specs.Prelude.{ℕ, ◌+◌, ◌&&◌, List, map, ltb, Result, Ok, Err, Option, Some, None, if◌then◌else◌}
 use Rattle.std.proofs.Math.ListN.{set}
 use Rattle.std.specs.List.{list_all}
+use Rattle.std.proofs.Common.{Bor}
 use Rattle.policy.specs.declared.Decisions.{Decisions}
 use Rattle.policy.specs.declared.refusal.Refusal.{Refusal}
 use Rattle.policy.specs.declared.refusal.Refusal.TheVariants.{Malformed, OutOfRange}
 use Rattle.policy.specs.Refusal.{number_of}
 use Rattle.format.specs.Parser.{Outcome, refused, found}
+use Rattle.lines.specs.declared.Cut.{Cut}
 use Rattle.format.specs.Format.{is_number, spelt, is_list, decisions_of}
 
 -- what is read, seen as f sees it, and the bytes that are left after it; or a refusal
@@ -16,6 +18,16 @@ outcome_by f (Err e) rest = refused (number_of e)
 
 abbrev pub outcome : {A : Type 0} → Result A Refusal → List ℕ → Outcome A
 outcome = outcome_by (λ a. a)
+
+-- the bytes that are left after others were passed; or a refusal
+unfoldable pub passed : Result (Bor (List ℕ)) Refusal → Outcome (Unit {0})
+passed (Ok rest) = found tt rest.now
+passed (Err e) = refused (number_of e)
+
+-- the contents of a line, and the bytes that are left after it; or a refusal
+unfoldable pub cut_outcome : Result Cut Refusal → Outcome (List ℕ)
+cut_outcome (Ok cut) = found cut.content.now cut.after.now
+cut_outcome (Err e) = refused (number_of e)
 
 -- the list with one decision more, where it is below n and there is a place for it
 unfoldable pub with : ℕ → Option Decisions → ℕ → Option Decisions

@@ -1,11 +1,11 @@
 // Reading a file line by line.
-#![tactic(auto, using(crate::proofs::Bytes::line_parts), unfolding(crate::specs::Outcomes::outcome_by, crate::specs::Outcomes::list_in, format::specs::Parser::ask, format::specs::Parser::onward, format::specs::Parser::end, format::specs::Format::line, format::specs::Format::number_line, format::specs::Format::kind_line, format::specs::Format::list_line))]
+#![tactic(auto, using(crate::proofs::Bytes::line_parts), unfolding(crate::specs::Outcomes::outcome_by, crate::specs::Outcomes::passed, crate::specs::Outcomes::cut_outcome, crate::specs::Outcomes::list_in, format::specs::Parser::ask, format::specs::Parser::onward, format::specs::Parser::end, format::specs::Format::line, format::specs::Format::number_line, format::specs::Format::kind_line, format::specs::Format::list_line))]
 
 ghost use Rattle.std.specs.Prelude.{◌≡◌, ◌≤◌, ◌==◌, IfErr, IfOk};
 ghost use Rattle.std.specs.List.{position};
-ghost use Rattle.format.specs.Parser.{exactly, rest_of_line, end};
+ghost use Rattle.format.specs.Parser.{exactly, end};
 ghost use Rattle.format.specs.Format.{line, number_line, kind_line, list_line};
-ghost use Rattle.lines.specs.Outcomes.{outcome, outcome_by};
+ghost use Rattle.lines.specs.Outcomes.{cut_outcome, outcome, passed};
 
 use policy::{Decisions, Kind, Refusal};
 use std::marker::Model;
@@ -33,6 +33,34 @@ fn line_end(s: &[u8]) -> Option<usize>
     s.iter().position(|b| *b == b'\n')
 }
 
+// The contents of a line, and the bytes after it.
+#[derive(Clone, Copy)]
+struct Cut<'a> {
+    content: &'a [u8],
+    after: &'a [u8],
+}
+
+// The bytes after these.
+fn pass<'a>(rest: &'a [u8], key: &[u8]) -> Result<&'a [u8], Refusal>
+    ensures { passed result ≡ exactly key.now rest.now }
+{
+    rest.strip_prefix(key).ok_or(Refusal::Malformed)
+}
+
+// The line with this key in front.
+fn line<'a>(rest: &'a [u8], key: &[u8]) -> Result<Cut<'a>, Refusal>
+    ensures { cut_outcome result ≡ line key.now rest.now }
+{
+    let [b'=', content @ ..] = pass(rest, key)? else {
+        return Err(Refusal::Malformed);
+    };
+    let end = line_end(content).ok_or(Refusal::Malformed)?;
+    Ok(Cut {
+        content: &content[..end],
+        after: &content[end + 1..],
+    })
+}
+
 impl<'a> Lines<'a> {
     // All bytes are left.
     pub fn new(bytes: &'a [u8]) -> Lines<'a>
@@ -41,57 +69,19 @@ impl<'a> Lines<'a> {
         Lines { rest: bytes }
     }
 
-    // Passes these bytes.
-    fn pass(&mut self, key: &[u8]) -> Result<(), Refusal>
-        ensures { outcome result self.new ≡ exactly key.now self.old }
-    {
-        self.rest = self.rest.strip_prefix(key).ok_or(Refusal::Malformed)?;
-        Ok(())
-    }
-
-    // The bytes up to the next LF, which is passed too.
-    fn rest_of_line(&mut self) -> Result<&'a [u8], Refusal>
-        ensures { outcome_by (λ c. c.now) result self.new ≡ rest_of_line self.old }
-    {
-        let rest = self.rest;
-        let end = line_end(rest).ok_or(Refusal::Malformed)?;
-        self.rest = &rest[end + 1..];
-        Ok(&rest[..end])
-    }
-
-    // The contents of the line with this key.
-    fn line(&mut self, key: &[u8]) -> Result<&'a [u8], Refusal>
-        ensures { outcome_by (λ c. c.now) result self.new ≡ line key.now self.old }
-    {
-        self.pass(key)?;
-        self.pass(b"=")?;
-        self.rest_of_line()
-    }
-
-    // A number from lo to hi, where its line is passed in any case.
-    fn number_passed(&mut self, key: &[u8], lo: u16, hi: u16) -> Result<u16, Refusal>
-        ensures read { outcome result self.new ≡ number_line key.now lo hi self.old }
-        ensures in_range { IfOk result (λ v. (lo ≤ v) × (v ≤ hi)) }
-    {
-        let number = contents::number(self.line(key)?)?;
-        if !(lo as u32..=hi as u32).contains(&number) {
-            return Err(Refusal::OutOfRange);
-        }
-        Ok(number as u16)
-    }
-
     // A number from lo to hi.
     pub fn number(&mut self, key: &[u8], lo: u16, hi: u16) -> Result<u16, Refusal>
         ensures read { outcome result self.new ≡ number_line key.now lo hi self.old }
         ensures kept { IfErr result (λ e. self.new ≡ self.old) }
         ensures in_range { IfOk result (λ v. (lo ≤ v) × (v ≤ hi)) }
     {
-        let before = self.rest;
-        let number = self.number_passed(key, lo, hi);
-        if number.is_err() {
-            self.rest = before;
+        let cut = line(self.rest, key)?;
+        let number = contents::number(cut.content)?;
+        if !(lo as u32..=hi as u32).contains(&number) {
+            return Err(Refusal::OutOfRange);
         }
-        number
+        self.rest = cut.after;
+        Ok(number as u16)
     }
 
     // A kind, p or o.
@@ -99,24 +89,10 @@ impl<'a> Lines<'a> {
         ensures read { outcome result self.new ≡ kind_line self.old }
         ensures kept { IfErr result (λ e. self.new ≡ self.old) }
     {
-        let before = self.rest;
-        let kind = self.line(b"kind").and_then(contents::kind);
-        if kind.is_err() {
-            self.rest = before;
-        }
-        kind
-    }
-
-    // A list of rising decisions below n, where its line is passed in any case.
-    fn decisions_passed(&mut self, key: &[u8], n: u8) -> Result<Decisions, Refusal>
-        ensures { outcome result self.new ≡ list_line key.now n self.old }
-    {
-        let list = contents::list(self.line(key)?, n)?;
-        if list.rises() {
-            Ok(list)
-        } else {
-            Err(Refusal::NotRising)
-        }
+        let cut = line(self.rest, b"kind")?;
+        let kind = contents::kind(cut.content)?;
+        self.rest = cut.after;
+        Ok(kind)
     }
 
     // A list of rising decisions below n.
@@ -124,12 +100,13 @@ impl<'a> Lines<'a> {
         ensures read { outcome result self.new ≡ list_line key.now n self.old }
         ensures kept { IfErr result (λ e. self.new ≡ self.old) }
     {
-        let before = self.rest;
-        let list = self.decisions_passed(key, n);
-        if list.is_err() {
-            self.rest = before;
+        let cut = line(self.rest, key)?;
+        let list = contents::list(cut.content, n)?;
+        if !list.rises() {
+            return Err(Refusal::NotRising);
         }
-        list
+        self.rest = cut.after;
+        Ok(list)
     }
 
     // Nothing is left.

@@ -13,7 +13,8 @@ mod spoilt;
 mod spoilt_queries;
 mod written;
 
-// Writes the lines of a file. What it calls has a frame of its own (`inline(never)`): the buffers of all would else lie on the stack at once.
+// Writes the lines of a file. What writes many lines has a frame of its own (`inline(never)`): the buffers of all would else lie on the
+// stack at once.
 fn answer(file: &File) {
     let File { policy, queries } = *file;
     calls::check(policy);

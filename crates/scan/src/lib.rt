@@ -68,8 +68,8 @@ fn lists_met(rule: &Rule, held: &[bool; MOST_DECISIONS]) -> bool
     all_held(held, rule.ifs.listed()) && none_held(held, rule.unless.listed())
 }
 
-// Whether the rule can fire: its head is not held yet, and the world and the marks are as it asks. The scan asks this of most rules again
-// and again, so what fails first is no call.
+// Whether the rule can fire: its head is not held yet, and the world and the marks are as it asks. Each pass asks this
+// of every rule of its level, so what most rules fail by is tested without a call.
 #[tactic(auto, unfolding(model::specs::Fire::can_fire))]
 fn can_fire(rule: &Rule, held: &[bool; MOST_DECISIONS], world: u16) -> bool
     requires { RuleFits most_decisions most_actions rule.now }
